@@ -1,10 +1,10 @@
 -- A whole run, line by line.
-use mathlib.Core.List.{List, [], _∷_, _++_, append-assoc}
+use mathlib.Core.List.{List, [], _++_, append-assoc}
 use mathlib.Core.Bool.{true, false, cond}
 use mathlib.Core.Path.{_≡_, refl, sym, ap, _∙_, subst}
-use Prim.Native.Nat.{ℕ, suc, _+_, _-_, _<_, _≤_}
+use Prim.Native.Nat.{ℕ, _+_, _-_, _<_, _≤_}
 use native.Mathlib.Omega.{arith}
-use lib.Dec.{leb, ltb}
+use lib.Dec.{leb}
 use lib.ListN.{length, take, drop}
 use lib.Seq.{drop-drop}
 use borrow.Author.Tests.{leb-true, le-ltb}
@@ -20,7 +20,6 @@ use Rattle.text.specs.Commands.{commandOf}
 use Rattle.text.specs.declared.command.Command.{Command}
 use Rattle.text.specs.declared.fault.Fault.{Fault}
 use Rattle.text.specs.declared.fault.Fault.the-variants as fault
-use Rattle.script.specs.declared.run.RunAnswer.{RunAnswer}
 use Rattle.text.proofs.Cuts.{lines-cons, lines-none}
 use Rattle.script.proofs.Steps.{placed-none}
 
@@ -169,7 +168,7 @@ along-begin script out s k es ek =
     let e : linesRan (linesOf s) k (length out - 0) ≡ o = rw (z, es, ek) refl in
     subst (λ (y : Outcome). Along o y 0 0 out out) (sym e) (along-start o out)
 
-script-short : (script : List ℕ) (room : ℕ) → length script ≤ 65536 → linesRan (linesOf script) powerOn room ≡ scriptRan script room
+pub script-short : (script : List ℕ) (room : ℕ) → length script ≤ 65536 → linesRan (linesOf script) powerOn room ≡ scriptRan script room
 script-short script room h = rw (le-ltb 65536 (length script) h) refl
 
 pub script-end : (script out₀ out : List ℕ) (n p code : ℕ) → length script ≤ 65536

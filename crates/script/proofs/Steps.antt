@@ -1,12 +1,10 @@
 -- One line of a run.
-use mathlib.Core.List.{List, [], _∷_, _++_, append-assoc}
-use mathlib.Core.Bool.{Bool, true, false, cond}
-use mathlib.Core.Path.{_≡_, refl, sym, ap, _∙_, subst}
-use Prim.Native.Nat.{ℕ, suc, _+_, _-_, _<_, _≤_}
+use mathlib.Core.List.{List, [], _++_}
+use mathlib.Core.Path.{_≡_, refl, sym, ap, _∙_}
+use Prim.Native.Nat.{ℕ, _+_, _-_, _<_, _≤_}
 use native.Mathlib.Nat.{add-zero}
 use native.Mathlib.Omega.{arith}
-use lib.Dec.{leb}
-use lib.ListN.{length, take, drop}
+use lib.ListN.{length, take}
 use lib.Seq.{drop-drop}
 use borrow.Author.Tests.{le-leb, lt-leb}
 use borrow.Rule.Slice.PartMut.{putMid}
@@ -17,12 +15,11 @@ use Rattle.std.specs.Results.{ErrBy}
 use Rattle.card.specs.Calls.{Card, Got, valueOf, allowed, accepted}
 use Rattle.refusal.specs.declared.Refusal.{Refusal}
 use Rattle.script.specs.Output.{readLine, placed}
-use Rattle.script.specs.Runs.{Done, Ran, readRan, writeRan, fitting, performed, lengthOf, cardOf, bytesOf, commandRan, lineRan}
+use Rattle.script.specs.Runs.{Done, Ran, readRan, fitting, lengthOf, cardOf, bytesOf, commandRan, lineRan}
 use Rattle.text.specs.Commands.{commandOf}
 use Rattle.text.specs.declared.fault.Fault.{Fault}
 use Rattle.text.specs.declared.fault.Fault.the-variants as fault
 use Rattle.text.specs.declared.command.Command.{Command}
-use Rattle.text.specs.declared.command.Command.the-variants.{Read, Write, Tick}
 
 pub placed-none : (at : ℕ) (out : List ℕ) → placed at [] out ≡ out
 placed-none at out = rw (add-zero at) (take-append-drop at out)

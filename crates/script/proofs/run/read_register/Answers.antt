@@ -1,9 +1,9 @@
 use native.Mathlib.Omega.{arith}
-use mathlib.Core.Path.{_≡_, refl, sym, ap, _∙_}
-use Prim.Native.Nat.{_-_, _≤_, _<_}
+use mathlib.Core.Path.{refl, sym, ap, _∙_}
+use Prim.Native.Nat.{_-_}
 use lib.ListN.{length}
 use Rattle.card.specs.Calls.{readDone, afterRead}
-use Rattle.script.specs.Output.{readLine, placed}
+use Rattle.script.specs.Output.{readLine}
 use Rattle.script.specs.Runs.{fitting, readRan}
 use Rattle.script.proofs.Steps.{refused-line, run-line, allowed-err, allowed-ok, value-err, value-ok, read-full, read-fits, placed-part, exit-is}
 use Rattle.script.proofs.run.read_register.Needs as need

@@ -1,14 +1,12 @@
-use native.Mathlib.Omega.{arith}
-use mathlib.Core.Path.{_≡_, refl, sym, ap, _∙_, subst}
+use mathlib.Core.Path.{refl, sym, ap, _∙_, subst}
 use mathlib.Core.List.{[]}
 use Prim.Native.Nat.{_-_}
 use lib.ListN.{length}
 use Rattle.std.specs.declared.result.Result.{Result}
-use Rattle.std.specs.declared.result.Result.the-variants.{Ok, Err}
+use Rattle.std.specs.declared.result.Result.the-variants.{Ok}
 use Rattle.card.specs.Calls.{writeDone, afterWrite}
-use Rattle.script.specs.Runs.{Done, Ran, fitting, performed, writeRan, ticked, commandRan}
+use Rattle.script.specs.Runs.{Done, Ran, fitting, writeRan, ticked, commandRan}
 use Rattle.text.specs.declared.fault.Fault.{Fault}
-use Rattle.text.specs.declared.command.Command.the-variants.{Read, Write, Tick}
 use Rattle.script.proofs.Steps.{refused-line, run-line, line-as, fits-none, placed-none, exit-is, accepted-err, accepted-ok}
 use Rattle.script.proofs.run.run_line.Needs as need
 

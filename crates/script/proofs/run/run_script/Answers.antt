@@ -1,9 +1,9 @@
 use native.Mathlib.Omega.{arith}
-use mathlib.Core.Path.{_≡_, refl, sym, ap, _∙_, subst}
-use Prim.Native.Nat.{ℕ, _+_, _-_, _≤_, _<_}
+use mathlib.Core.Path.{sym, ap, subst}
+use Prim.Native.Nat.{ℕ, _-_}
 use lib.ListN.{length}
 use Rattle.card.specs.Calls.{powerOn}
-use Rattle.text.specs.Lines.{linesOf, past}
+use Rattle.text.specs.Lines.{linesOf}
 use Rattle.text.specs.Cursor.{rest}
 use Rattle.script.specs.Runs.{Outcome, linesRan, ended}
 use Rattle.script.proofs.Runs.{Along, along-begin, script-end, past-shorter, lines-end, turn-ok, turn-err, turn-room}

@@ -1,4 +1,4 @@
-use mathlib.Core.Path.{_≡_, refl, sym, ap, _∙_}
+use mathlib.Core.Path.{refl, sym, ap, _∙_}
 use native.Mathlib.Numerals.{add-one}
 use Rattle.card.specs.Calls.{tickDone}
 use Rattle.script.specs.Runs.{ticked}

@@ -1,5 +1,5 @@
 use native.Mathlib.Omega.{arith}
-use mathlib.Core.Path.{_≡_, refl}
+use mathlib.Core.Path.{refl}
 use Rattle.std.proofs.shelf.Lists.{drop-all, length-drop}
 use Rattle.text.proofs.reader.Reader.line.Needs as need
 

@@ -1,6 +1,6 @@
 use native.Mathlib.Omega.{arith}
-use mathlib.Core.Path.{_≡_, refl, sym, ap, _∙_}
-use Prim.Native.Nat.{_+_, _-_, _*_, _^_, _<_, _≤_}
+use mathlib.Core.Path.{ap}
+use Prim.Native.Nat.{_-_}
 use lib.ListN.{length, take, drop}
 use Rattle.std.proofs.shelf.Lists.{at-drop-all, take-rest}
 use Rattle.text.specs.Fields.{commas}

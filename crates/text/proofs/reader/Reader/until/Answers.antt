@@ -1,7 +1,6 @@
 use native.Mathlib.Omega.{arith}
-use mathlib.Core.Path.{_≡_, ap, _∙_}
-use Prim.Native.Nat.{_+_, _≤_}
-use lib.ListN.{length, drop}
+use mathlib.Core.Path.{ap, _∙_}
+use lib.ListN.{drop}
 use Rattle.text.proofs.Cuts.{cut-within, cut-value, cut-past, cut-end}
 use Rattle.text.proofs.reader.Reader.until.Needs as need
 use Rattle.text.proofs.reader.Reader.until.Needs.{then-stop-bytes, else-stop-bytes}

@@ -1,7 +1,6 @@
 use native.Mathlib.Omega.{arith}
-use mathlib.Core.Path.{_≡_, ap}
-use mathlib.Core.List.{[]}
-use lib.ListN.{length, drop}
+use mathlib.Core.Path.{ap}
+use lib.ListN.{length}
 use Rattle.std.proofs.shelf.Lists.{drop-all}
 use Rattle.text.specs.Lines.{upTo}
 use Rattle.text.proofs.Cuts.{upTo-more, upTo-here}
