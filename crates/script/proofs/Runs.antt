@@ -124,7 +124,7 @@ unfolding linesRan
 lines-end s k room e = ap (λ y. linesRan (linesOf y) k room) e ∙ ap (λ ls. linesRan ls k room) lines-none
 
 -- one turn of the run
-module _ {whole : Outcome} (s : List ℕ) (k k′ : Card) (n p : ℕ) (out₀ out out′ line : List ℕ)
+module _ {whole : Outcome} (s : List ℕ) (k : Card) {k′ : Card} {n p : ℕ} {out₀ out out′ line : List ℕ}
     (a : Along whole (linesRan (linesOf s) k (length out - p)) n p out₀ out) (h : 0 < length s) (is : line ≡ upTo 10 s) where
   pub turn-err : (e : Fault) → Ran (lineRan line k (length out - p)) (Err e) k k′ p out out′
       → Along whole (ended (faultCode e)) n p out₀ out′
@@ -138,7 +138,7 @@ module _ {whole : Outcome} (s : List ℕ) (k k′ : Card) (n p : ℕ) (out₀ ou
 
   pub turn-room : (m : ℕ) → Ran (lineRan line k (length out - p)) (Ok m) k k′ p out out′ → p + m ≤ length out
   turn-room m r =
-      let d = length-ok _ m (r .answer) in
+      let d = length-ok (lineRan line k (length out - p)) m (r .answer) in
       omega (arith, line-room line k (length out - p) (d .0) (d .1), d .2, a .within)
 
   pub turn-ok : (m : ℕ) → Ran (lineRan line k (length out - p)) (Ok m) k k′ p out out′
@@ -171,11 +171,11 @@ along-begin script out s k es ek =
 pub script-short : (script : List ℕ) (room : ℕ) → length script ≤ 65536 → linesRan (linesOf script) powerOn room ≡ scriptRan script room
 script-short script room h = rw (le-ltb 65536 (length script) h) refl
 
-pub script-end : (script out₀ out : List ℕ) (n p code : ℕ) → length script ≤ 65536
+pub script-end : (script : List ℕ) {out₀ out : List ℕ} {n p code : ℕ} → length script ≤ 65536
     → Along (linesRan (linesOf script) powerOn (length out₀)) (ended code) n p out₀ out
     → (record { lines = n; bytes = p; code = code } ≡ answerOf (scriptRan script (length out₀)))
     × (out ≡ outputOf (scriptRan script (length out₀)) out₀)
-script-end script out₀ out n p code h a =
+script-end script {out₀} {out} {n} {p} {code} h a =
     let P : Outcome → Type 0 = λ y. (record { lines = n; bytes = p; code = code } ≡ answerOf y) × (out ≡ outputOf y out₀) in
     subst P (script-short script (length out₀) h) (along-end a)
 

@@ -21,11 +21,7 @@ run-line-requires c κs = c .loop-line .inv .0 .within
 pub add-bytes : need.add-bytes
 add-bytes c =
     let t = c .in-Some .ensures tt in
-    omega (
-      arith,
-      turn-room (rest (c .loop-line .reader)) (c .loop-line .card) (c .run-line .last .card) (c .loop-line .lines) (c .loop-line .bytes)
-          (c .args .out .now) (c .loop-line .out) (c .run-line .last .out) (c .in-Some .line .now) (c .loop-line .inv .0) (t .0) (t .1) (c .in-Ok .n) (c .in-Ok .ensures tt),
-    )
+    omega (arith, turn-room (rest (c .loop-line .reader)) (c .loop-line .card) (c .loop-line .inv .0) (t .0) (t .1) (c .in-Ok .n) (c .in-Ok .ensures tt))
 
 pub add-lines : need.add-lines
 add-lines c = omega (arith, c .loop-line .inv .1, c .if-script-gt-MAX-SCRIPT .left)
@@ -37,26 +33,25 @@ loop-line-less c =
 
 pub loop-line-again : need.loop-line-again
 loop-line-again c =
-    let t = c .in-Some .ensures tt in
-    let a = turn-ok (rest (c .loop-line .reader)) (c .loop-line .card) (c .run-line .last .card) (c .loop-line .lines) (c .loop-line .bytes)
-    (c .args .out .now) (c .loop-line .out) (c .run-line .last .out) (c .in-Some .line .now) (c .loop-line .inv .0) (t .0) (t .1) (c .in-Ok .n) (c .in-Ok .ensures tt) in (
-      rw (t .2) a,
+    let t = c .in-Some .ensures tt in (
+      rw (t .2) (turn-ok (rest (c .loop-line .reader)) (c .loop-line .card) (c .loop-line .inv .0) (t .0) (t .1) (c .in-Ok .n) (c .in-Ok .ensures tt)),
       omega (arith, past-shorter (rest (c .loop-line .reader)) (t .0), ap length (t .2), c .loop-line .inv .1),
     )
 
 pub returns-in-Err : need.returns-in-Err
 returns-in-Err c =
     let t = c .in-Some .ensures tt in
-    let a = turn-err (rest (c .loop-line .reader)) (c .loop-line .card) (c .run-line .last .card) (c .loop-line .lines) (c .loop-line .bytes)
-    (c .args .out .now) (c .loop-line .out) (c .run-line .last .out) (c .in-Some .line .now) (c .loop-line .inv .0) (t .0) (t .1) (c .in-Err .fault) (c .in-Err .ensures tt) in
-    let P : ℕ → Type 0 = λ i. Along (linesRan (linesOf (c .args .script .now)) powerOn (length (c .args .out .now))) (ended i) (c .loop-line .lines) (c .loop-line .bytes) (c .args .out .now) (c .run-line .last .out) in
-    let e = script-end (c .args .script .now) (c .args .out .now) (c .run-line .last .out) (c .loop-line .lines) (c .loop-line .bytes) (c .code-in-Err .result) (c .if-script-gt-MAX-SCRIPT .left) (subst P (sym (c .code-in-Err .ensures)) a) in
+    let whole = linesRan (linesOf (c .args .script .now)) powerOn (length (c .args .out .now)) in
+    let P : ℕ → Type 0 = λ code. Along whole (ended code) (c .loop-line .lines) (c .loop-line .bytes) (c .args .out .now) (c .run-line .last .out) in
+    let a = turn-err (rest (c .loop-line .reader)) (c .loop-line .card) (c .loop-line .inv .0) (t .0) (t .1) (c .in-Err .fault) (c .in-Err .ensures tt) in
+    let e = script-end (c .args .script .now) (c .if-script-gt-MAX-SCRIPT .left) (subst P (sym (c .code-in-Err .ensures)) a) in
     record { answer = e .0; output = e .1 }
 
 pub returns : need.returns
 returns c =
     let t = c .in-rest .ensures tt in
-    let P : Outcome → Type 0 = λ y. Along (linesRan (linesOf (c .args .script .now)) powerOn (length (c .args .out .now))) y (c .loop-line .lines) (c .loop-line .bytes) (c .args .out .now) (c .loop-line .out) in
+    let whole = linesRan (linesOf (c .args .script .now)) powerOn (length (c .args .out .now)) in
+    let P : Outcome → Type 0 = λ o. Along whole o (c .loop-line .lines) (c .loop-line .bytes) (c .args .out .now) (c .loop-line .out) in
     let a = subst P (lines-end (rest (c .loop-line .reader)) (c .loop-line .card) (length (c .loop-line .out) - c .loop-line .bytes) (t .0)) (c .loop-line .inv .0) in
-    let e = script-end (c .args .script .now) (c .args .out .now) (c .loop-line .out) (c .loop-line .lines) (c .loop-line .bytes) 0 (c .if-script-gt-MAX-SCRIPT .left) a in
+    let e = script-end (c .args .script .now) (c .if-script-gt-MAX-SCRIPT .left) a in
     record { answer = e .0; output = e .1 }
