@@ -1,12 +1,18 @@
 -- What each call of the card answers, and the card after it.
 use mathlib.Core.Bool.{cond}
-use Prim.Native.Nat.{ℕ, _-_, _%_}
+use Prim.Native.Nat.{ℕ}
+use lib.ListN.{replicate}
 use Rattle.std.specs.declared.result.Result.{Result}
 use Rattle.std.specs.declared.result.Result.the-variants.{Ok, Err}
 use Rattle.refusal.specs.declared.Refusal.{Refusal}
+use Rattle.channel.specs.Ticks.{newChannel}
+use Rattle.table.specs.Tables.{tableTicked}
 use Rattle.card.specs.declared.Card.{Card as State}
 use Rattle.card.specs.declared.Levels.{Levels as Answered}
-use Rattle.card.specs.Registers.{offsetChecked, inChannels, channelChecked, registerRead, sharedWritten}
+use Rattle.card.specs.Registers.{offsetChecked, registerRead, registerSet, registerValue, settingChecked}
+use Rattle.card.specs.Shared.{expiry, newShared, sharedTicked}
+use Rattle.card.specs.Snapshots.{timerTriggered}
+use Rattle.card.specs.Words.{levelsNow}
 
 -- the card's state, under one name wherever its struct is declared
 abbrev pub Card : Type 0
@@ -51,27 +57,26 @@ abbrev pub given : {A : Type 0} → Result (Unit {0}) Refusal → Result A Refus
 given (Ok u) done = done
 given (Err e) done = Err e
 
--- the card after power-on
+-- the card after power-on: eight new channels
 unfoldable pub powerOn : Card
-powerOn = record { shared = record { scratchpad = 0 } }
+powerOn = record { channels = replicate 8 newChannel; shared = newShared }
 
--- the card after a tick
+-- the table's tick: every channel's, with the timer's expiry
+abbrev pub channelsTicked : ℕ → ℕ → Card → Card
+channelsTicked lines inputs k = record { channels = tableTicked lines inputs (expiry (k .shared)) (k .channels); shared = sharedTicked (k .shared) }
+
+-- the card after a tick: the timer, the channels, then the timer's snapshot
 unfoldable pub tickDone : ℕ → ℕ → Card → Card
-tickDone lines inputs k = k
+tickDone lines inputs k = timerTriggered (expiry (k .shared)) (channelsTicked lines inputs k)
 
--- what a tick answers: every SSI clock idle at 1, every output 0
+-- what a tick answers: the levels that the card drives after it
 unfoldable pub tickLevels : ℕ → ℕ → Card → Levels
-tickLevels lines inputs k = record { clocks = 255; outputs = 0 }
+tickLevels lines inputs k = levelsNow (timerTriggered (expiry (k .shared)) (channelsTicked lines inputs k))
 
 -- a read
 unfoldable pub readDone : Card → ℕ → Result Got Refusal
-readDone k o = given (offsetChecked o) (Ok (record { value = registerRead (k .shared) o; card = k }))
-
--- a write that the offset allows
-abbrev pub registerWritten : Card → ℕ → ℕ → Result Card Refusal
-registerWritten k o v =
-    cond (inChannels o) (given (channelChecked ((o - 16) % 40) v) (Ok k)) (Ok (record { shared = sharedWritten o v (k .shared) }))
+readDone k o = given (offsetChecked o) (Ok (record { value = registerValue o k; card = registerRead o k }))
 
 -- a write
 unfoldable pub writeDone : Card → ℕ → ℕ → Result Card Refusal
-writeDone k o v = given (offsetChecked o) (registerWritten k o v)
+writeDone k o v = given (offsetChecked o) (given (settingChecked o v) (Ok (registerSet o v k)))

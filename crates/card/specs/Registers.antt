@@ -1,16 +1,19 @@
--- The register map: what stands at an offset, and which accesses are refused.
-use mathlib.Core.Bool.{Bool, cond, not, _&&_, _||_}
-use Prim.Native.Nat.{ℕ, _-_, _/_, _%_, _^_}
+-- The register map: what stands at an offset, and which offsets are refused.
+use mathlib.Core.Bool.{Bool, true, false, cond, not, _&&_, _||_}
+use Prim.Native.Nat.{ℕ, _-_, _/_, _%_}
 use lib.Dec.{eqb, leb, ltb}
 use Rattle.std.specs.declared.result.Result.{Result}
 use Rattle.std.specs.declared.result.Result.the-variants.{Ok, Err}
 use Rattle.refusal.specs.declared.Refusal.{Refusal}
-use Rattle.refusal.specs.declared.Refusal.the-variants.{Offset, Setting}
-use Rattle.card.specs.declared.Shared.{Shared}
-
--- the field of n bits whose lowest is bit k
-abbrev pub fieldOf : ℕ → ℕ → ℕ → ℕ
-fieldOf w k n = w / 2 ^ k % 2 ^ n
+use Rattle.refusal.specs.declared.Refusal.the-variants.{Offset}
+use Rattle.parts.specs.Snapshots.{afterReading}
+use Rattle.channel.specs.declared.act.Act.the-variants.{AcknowledgeEdges}
+use Rattle.channel.specs.Records.{withSnapshot}
+use Rattle.channel.specs.Registers.{registerAnswer, registerShown, registerTaken, registerWritten}
+use Rattle.card.specs.declared.Card.{Card}
+use Rattle.card.specs.Records.{channelOf, withChannel}
+use Rattle.card.specs.SharedRegisters.{acknowledgedAll, onAll, sharedWritten}
+use Rattle.card.specs.Words.{registerWord}
 
 -- registers stand at the multiples of 4 up to 0x1FC
 abbrev pub offsetChecked : ℕ → Result (Unit {0}) Refusal
@@ -20,24 +23,48 @@ offsetChecked o = cond (not (eqb (o % 4) 0) || ltb 508 o) (Err Offset) (Ok tt)
 abbrev pub inChannels : ℕ → Bool
 inChannels o = leb 16 o && ltb o 336
 
--- SSI MODE 1, START 10 or 11: settings of SSI Mode Control that the card does not have
-abbrev pub ssiUnsupported : ℕ → Bool
-ssiUnsupported v = eqb (fieldOf v 24 1) 1 || ltb 1 (fieldOf v 25 2)
+-- the channel whose span an offset lies in, and the place in the span
+abbrev pub channelAt : ℕ → ℕ
+channelAt o = (o - 16) / 40
 
--- ICM 101 to 111: settings of Counter Mode Control that the card does not have
-abbrev pub counterUnsupported : ℕ → Bool
-counterUnsupported v = ltb 4 (fieldOf v 8 3)
+abbrev pub placeAt : ℕ → ℕ
+placeAt o = (o - 16) % 40
 
--- a word at a place of a channel's span: SSI Mode Control is its first register, Counter Mode Control its third
-abbrev pub channelChecked : ℕ → ℕ → Result (Unit {0}) Refusal
-channelChecked place v =
-    cond ((eqb place 0 && ssiUnsupported v) || (eqb place 8 && counterUnsupported v)) (Err Setting) (Ok tt)
+-- the MCR Data Registers, one for each channel, stand from 0x190 to 0x1AC
+abbrev pub inSnapshots : ℕ → Bool
+inSnapshots o = leb 400 o && ltb o 432
 
--- Board Health, Scratchpad and Firmware Version; every other register reads 0
-abbrev pub registerRead : Shared → ℕ → ℕ
-registerRead s o =
-    cond (eqb o 500) 33554432 (cond (eqb o 504) (s .scratchpad) (cond (eqb o 508) 16777216 0))
+abbrev pub snapshotAt : ℕ → ℕ
+snapshotAt o = (o - 400) / 4
 
--- the Scratchpad keeps what is written
-abbrev pub sharedWritten : ℕ → ℕ → Shared → Shared
-sharedWritten o v s = cond (eqb o 504) (record { scratchpad = v }) s
+-- with IRQ ACK CONFIG a read of Interrupt Status acknowledges all that it shows
+abbrev pub interruptsRead : Card → Card
+interruptsRead c = cond (c .shared .«clear_on_read») (acknowledgedAll 4294967295 c) c
+
+-- and a read of 24 V Input Interrupt Status all edges
+abbrev pub edgesRead : Card → Card
+edgesRead c = cond (c .shared .«clear_on_read») (onAll (AcknowledgeEdges 4294967295) c) c
+
+-- what the register at an offset shows
+abbrev pub registerValue : ℕ → Card → ℕ
+registerValue o c =
+  cond (inChannels o) (registerShown (placeAt o) (channelOf (channelAt o) c))
+  (cond (inSnapshots o) (channelOf (snapshotAt o) c .snapshot .word) (registerWord o c))
+
+-- the card after a read of it
+abbrev pub registerRead : ℕ → Card → Card
+registerRead o c =
+  cond (inChannels o) (withChannel (channelAt o) (registerTaken (placeAt o) (channelOf (channelAt o) c)) c)
+  (cond (eqb o 392) (interruptsRead c)
+  (cond (eqb o 396) (edgesRead c)
+  (cond (inSnapshots o)
+    (withChannel (snapshotAt o) (withSnapshot (afterReading (channelOf (snapshotAt o) c .snapshot)) (channelOf (snapshotAt o) c)) c) c)))
+
+-- whether a write is refused for what it sets
+abbrev pub settingChecked : ℕ → ℕ → Result (Unit {0}) Refusal
+settingChecked o v = cond (inChannels o) (registerAnswer (placeAt o) v) (Ok tt)
+
+-- the card after a write that is not refused
+abbrev pub registerSet : ℕ → ℕ → Card → Card
+registerSet o v c =
+  cond (inChannels o) (withChannel (channelAt o) (registerWritten (placeAt o) v (channelOf (channelAt o) c)) c) (sharedWritten o v c)

@@ -1,13 +1,14 @@
-// Register accesses: where an offset leads, and what is refused there.
+//! Register accesses: where an offset leads, and what is refused there.
 ghost use mathlib.Core.Path.{_≡_};
-ghost use Rattle.card.specs.Calls.{readDone, writeDone, valueOf, afterRead, allowed, accepted, afterWrite};
-ghost use Rattle.card.specs.Registers.{offsetChecked, channelChecked, sharedWritten};
+ghost use Rattle.card.specs.Calls.{accepted, afterRead, afterWrite, allowed, readDone, valueOf, writeDone};
+ghost use Rattle.card.specs.Registers.{edgesRead, interruptsRead, offsetChecked};
+ghost use Rattle.card.specs.Words.{interruptStatus, registerWord};
 use crate::Card;
-use crate::Shared;
-use crate::fields::field;
+use channel::act::Act;
 use refusal::Refusal;
+use table::act_on_all;
 
-// Whether the card has a register at the offset.
+/// Whether the card has a register at the offset.
 fn check_offset(offset: u32) -> Result<(), Refusal>
     ensures { λ r. ⌜ r ≡ offsetChecked offset ⌝ }
 {
@@ -15,27 +16,6 @@ fn check_offset(offset: u32) -> Result<(), Refusal>
         return Err(Refusal::Offset);
     }
     Ok(())
-}
-
-// Whether a channel takes the word at a place of its span; it keeps nothing yet.
-fn write_channel(place: u32, value: u32) -> Result<(), Refusal>
-    ensures { λ r. ⌜ r ≡ channelChecked place value ⌝ }
-{
-    match place {
-        0x00 if field(value, 24, 1) == 1 || field(value, 25, 2) > 1 => Err(Refusal::Setting),
-        0x08 if field(value, 8, 3) > 4 => Err(Refusal::Setting),
-        _ => Ok(()),
-    }
-}
-
-impl Shared {
-    fn write(&mut self, offset: u32, value: u32)
-        ensures { λ _. ⌜ now (self .exit) ≡ sharedWritten offset value (now (self .entry)) ⌝ }
-    {
-        if offset == 0x1F8 {
-            self.scratchpad = value;
-        }
-    }
 }
 
 impl Card {
@@ -46,6 +26,30 @@ impl Card {
         check_offset(offset)
     }
 
+    /// With IRQ ACK CONFIG a read of Interrupt Status clears what it shows.
+    fn read_interrupts(&mut self) -> u32
+        ensures answer { λ r. ⌜ r ≡ interruptStatus (now (self .entry)) ⌝ }
+        ensures after { λ _. ⌜ now (self .exit) ≡ interruptsRead (now (self .entry)) ⌝ }
+    {
+        let word = self.interrupt_status();
+        if self.shared.clear_on_read {
+            self.acknowledge(0xFFFF_FFFF);
+        }
+        word
+    }
+
+    /// And so does a read of 24 V Input Interrupt Status.
+    fn read_edges(&mut self) -> u32
+        ensures answer { λ r. ⌜ r ≡ registerWord 396 (now (self .entry)) ⌝ }
+        ensures after { λ _. ⌜ now (self .exit) ≡ edgesRead (now (self .entry)) ⌝ }
+    {
+        let word = self.register(0x18C);
+        if self.shared.clear_on_read {
+            act_on_all(&mut self.channels, Act::AcknowledgeEdges { word: 0xFFFF_FFFF });
+        }
+        word
+    }
+
     /// Reads a register.
     pub fn read(&mut self, offset: u32) -> Result<u32, Refusal>
         ensures answer { λ r. ⌜ r ≡ valueOf (readDone (now (self .entry)) offset) ⌝ }
@@ -53,10 +57,14 @@ impl Card {
     {
         check_offset(offset)?;
         match offset {
-            0x1F4 => Ok(0x0200_0000),
-            0x1F8 => Ok(self.shared.scratchpad),
-            0x1FC => Ok(0x0100_0000),
-            _ => Ok(0),
+            0x010..0x150 => {
+                let place = offset - 0x010;
+                Ok(self.channels[(place / 0x28) as usize].read(place % 0x28))
+            }
+            0x188 => Ok(self.read_interrupts()),
+            0x18C => Ok(self.read_edges()),
+            0x190..0x1B0 => Ok(self.channels[((offset - 0x190) / 4) as usize].snapshot.read()),
+            _ => Ok(self.register(offset)),
         }
     }
 
@@ -67,8 +75,11 @@ impl Card {
     {
         check_offset(offset)?;
         match offset {
-            0x010..0x150 => write_channel((offset - 0x010) % 0x28, value)?,
-            _ => self.shared.write(offset, value),
+            0x010..0x150 => {
+                let place = offset - 0x010;
+                self.channels[(place / 0x28) as usize].write(place % 0x28, value)?;
+            }
+            _ => self.write_shared(offset, value),
         }
         Ok(())
     }

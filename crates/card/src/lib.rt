@@ -1,12 +1,19 @@
 //! The card as its host sees it: power-on, ticks, register reads and writes.
-mod access;
-mod fields;
-mod ticks;
+use channel::channel::Channel;
 
-/// The card's state.
+mod access;
+pub mod shared;
+mod shared_registers;
+mod snapshots;
+mod ticks;
+mod words;
+
+use shared::Shared;
+
+/// The card's state: the table of channels, and what is named for no single channel.
 #[derive(Clone, Copy)]
 pub struct Card {
-    // What the card keeps for all channels alike; the table of channels stands beside it.
+    channels: [Channel; 8],
     shared: Shared,
 }
 
@@ -15,10 +22,4 @@ pub struct Card {
 pub struct Levels {
     pub clocks: u8,
     pub outputs: u8,
-}
-
-/// The registers that are named for no single channel.
-#[derive(Clone, Copy)]
-pub struct Shared {
-    scratchpad: u32,
 }

@@ -1,9 +1,11 @@
-// Power-on and time.
+//! Power-on and time.
 ghost use mathlib.Core.Path.{_≡_};
 ghost use Rattle.card.specs.Calls.{powerOn, tickDone, tickLevels};
 use crate::Card;
 use crate::Levels;
-use crate::Shared;
+use crate::shared::Shared;
+use channel::channel::Channel;
+use table::tick_all;
 
 impl Card {
     /// A card that has just been switched on.
@@ -11,18 +13,19 @@ impl Card {
         ensures { λ r. ⌜ r ≡ powerOn ⌝ }
     {
         Card {
-            shared: Shared { scratchpad: 0 },
+            channels: [Channel::power_on(); 8],
+            shared: Shared::power_on(),
         }
     }
 
-    /// One tick of 10 ns with the levels of the encoder lines and of the 24 V inputs.
+    /// One tick of 10 ns with the levels of the encoder lines, in bits 23 to 0, and of the 24 V inputs.
     pub fn tick(&mut self, lines: u32, inputs: u8) -> Levels
         ensures answer { λ r. ⌜ r ≡ tickLevels lines inputs (now (self .entry)) ⌝ }
         ensures after { λ _. ⌜ now (self .exit) ≡ tickDone lines inputs (now (self .entry)) ⌝ }
     {
-        Levels {
-            clocks: 0xFF,
-            outputs: 0,
-        }
+        let expired = self.shared.tick();
+        tick_all(&mut self.channels, lines, u32::from(inputs), expired);
+        self.trigger_by_timer(expired);
+        self.levels()
     }
 }

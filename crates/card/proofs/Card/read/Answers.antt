@@ -6,17 +6,21 @@ pub returns-in-Break-check-offset : need.returns-in-Break-check-offset
 unfolding readDone
 returns-in-Break-check-offset c = search needs
 
-pub returns-in-500 : need.returns-in-500
+pub returns-in-392 : need.returns-in-392
 unfolding readDone
-returns-in-500 c = search needs
+returns-in-392 c = search needs
 
-pub returns-in-504 : need.returns-in-504
+pub returns-in-396 : need.returns-in-396
 unfolding readDone
-returns-in-504 c = search needs
+returns-in-396 c = search needs
 
-pub returns-in-508 : need.returns-in-508
+pub returns-in-16-to-335 : need.returns-in-16-to-335
 unfolding readDone
-returns-in-508 c = search needs
+returns-in-16-to-335 c = search needs
+
+pub returns-in-400-to-431 : need.returns-in-400-to-431
+unfolding readDone
+returns-in-400-to-431 c = search needs
 
 pub returns-in-rest : need.returns-in-rest
 unfolding readDone

@@ -1,7 +1,7 @@
 use borrow.Author.Needs.{needs}
-use Rattle.card.specs.Calls.{tickLevels, tickDone}
+use Rattle.card.specs.Calls.{tickDone, tickLevels}
 use Rattle.card.proofs.Card.tick.Needs as need
 
 pub returns : need.returns
-unfolding tickLevels tickDone
+unfolding tickDone tickLevels
 returns c = search needs

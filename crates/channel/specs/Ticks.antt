@@ -1,0 +1,71 @@
+-- What a tick does to a channel: filters, input edges, the timer's request, the working part.
+use mathlib.Core.Bool.{Bool, true, false, cond}
+use Rattle.std.specs.declared.option.Option.{Option}
+use Rattle.std.specs.declared.option.Option.the-variants.{Some, None}
+use Rattle.filter.specs.Debounces.{periodOf, reset}
+use Rattle.counter_count.specs.declared.levels.Levels.{Levels}
+use Rattle.counter.specs.Counters.{powerOnCounter, tickCauses, ticked}
+use Rattle.controller.specs.declared.control.Start.{Start}
+use Rattle.controller.specs.declared.control.Start.the-variants.{Request, Timer}
+use Rattle.controller.specs.declared.registers.Completed.{Completed}
+use Rattle.controller.specs.Phase.{phaseTicked}
+use Rattle.controller.specs.Registers.{completion, phaseRequested, powerOn as powerOnSsi, requested as ssiRequested, ticked as ssiTicked}
+use Rattle.parts.specs.Inputs.{inputTicked, newInput}
+use Rattle.parts.specs.Interrupts.{quiet, raised}
+use Rattle.parts.specs.Snapshots.{completed, emptied}
+use Rattle.channel.specs.declared.mode.Mode.{Mode}
+use Rattle.channel.specs.declared.mode.Mode.the-variants.{Off, Counter as Counting, Ssi as Reading}
+use Rattle.channel.specs.declared.mode.OffCode.the-variants.{Zeros}
+use Rattle.channel.specs.declared.channel.Channel.{Channel}
+use Rattle.channel.specs.Lines.{levelsOf, linesTicked, newLines}
+use Rattle.channel.specs.Records.{seeing, withCounter, withInterrupts, withMode, withSnapshot, withSsi, working}
+
+-- at power-on a channel is off, and its filters sample every three ticks
+abbrev pub newChannel : Channel
+newChannel = record { lines = newLines (periodOf reset); debounce = reset; input = newInput; mode = Off Zeros;
+  counter = powerOnCounter; ssi = powerOnSsi; snapshot = emptied; valid = quiet; fault = quiet; output = false; «test_output» = false }
+
+-- causes of the channel's two interrupts
+abbrev pub raisedBoth : Bool → Bool → Channel → Channel
+raisedBoth v f c = withInterrupts (raised v (c .valid)) (raised f (c .fault)) c
+
+-- a completed transmission is told to the interrupts and to the snapshot
+abbrev pub finished : Option Completed → Channel → Channel
+finished None c = c
+finished (Some d) c = withSnapshot (completed (d .word) (c .snapshot)) (raisedBoth true (d .fault) c)
+
+-- a request for a transmission: only an SSI channel heeds it
+abbrev pub requestedAs : Mode → Channel → Channel
+requestedAs (Off z) c = c
+requestedAs Counting c = c
+requestedAs (Reading p) c = withMode (Reading (phaseRequested (c .ssi) p)) (withSsi (ssiRequested p (c .ssi)) c)
+
+abbrev pub requested : Channel → Channel
+requested c = requestedAs (c .mode) c
+
+-- the timer's expiry is a request at START 01
+abbrev pub timerRequestedAs : Start → Channel → Channel
+timerRequestedAs Request c = c
+timerRequestedAs Timer c = requested c
+
+abbrev pub timerRequested : Bool → Channel → Channel
+timerRequested expired c = cond expired (timerRequestedAs (c .ssi .control .start) c) c
+
+-- the working part, with the filtered levels before the tick and after it
+abbrev pub workedAs : Mode → Levels → Levels → Channel → Channel
+workedAs (Off z) x y c = c
+workedAs Counting x y c = raisedBoth (tickCauses x y (c .counter) .matched) (tickCauses x y (c .counter) .control) (withCounter (ticked x y (c .counter)) c)
+workedAs (Reading p) x y c = finished (completion (y .b) p)
+  (withMode (Reading (phaseTicked (y .b) p)) (withSsi (ssiTicked (y .b) p (c .ssi)) c))
+
+abbrev pub worked : Levels → Levels → Channel → Channel
+worked x y c = workedAs (c .mode) x y c
+
+-- filters and input edges
+abbrev pub observed : Levels → Bool → Channel → Channel
+observed x i c = seeing c (linesTicked x (c .lines)) (c .debounce) (inputTicked i (c .input))
+
+-- the whole tick, with the levels on the channel's lines and input; `expired` says that the interval timer did
+unfoldable pub channelTicked : Levels → Bool → Bool → Channel → Channel
+channelTicked x i expired c =
+  worked (levelsOf (c .lines)) (levelsOf (linesTicked x (c .lines))) (timerRequested expired (observed x i c))

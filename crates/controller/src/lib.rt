@@ -1,0 +1,4 @@
+//! The SSI controller of one channel: its settings, its phases tick by tick, and its registers.
+pub mod control;
+pub mod phase;
+pub mod registers;

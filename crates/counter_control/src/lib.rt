@@ -1,0 +1,3 @@
+//! The Counter Mode Control word as named settings, decoded once when it is written.
+pub mod control;
+pub mod modes;

@@ -1,0 +1,3 @@
+pub mod GrayWords
+pub mod Sent
+pub mod Read

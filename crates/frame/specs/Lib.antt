@@ -1,0 +1,3 @@
+pub mod Gray
+pub mod Layout
+pub mod ReadBack

@@ -1,0 +1,3 @@
+pub mod Interrupts
+pub mod Inputs
+pub mod Snapshots
