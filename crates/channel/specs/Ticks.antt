@@ -7,6 +7,8 @@ use Rattle.counter_count.specs.declared.levels.Levels.{Levels}
 use Rattle.counter.specs.Counters.{powerOnCounter, tickCauses, ticked}
 use Rattle.controller.specs.declared.control.Start.{Start}
 use Rattle.controller.specs.declared.control.Start.the-variants.{Request, Timer}
+use Rattle.controller.specs.declared.phase.Phase.{Phase}
+use Rattle.controller.specs.declared.phase.Phase.the-variants.{Waiting, Clocking, Recovering}
 use Rattle.controller.specs.declared.registers.Completed.{Completed}
 use Rattle.controller.specs.Phase.{phaseTicked}
 use Rattle.controller.specs.Registers.{completion, phaseRequested, powerOn as powerOnSsi, requested as ssiRequested, ticked as ssiTicked}
@@ -65,7 +67,24 @@ worked x y c = workedAs (c .mode) x y c
 abbrev pub observed : Levels → Bool → Channel → Channel
 observed x i c = seeing c (linesTicked x (c .lines)) (c .debounce) (inputTicked i (c .input))
 
+-- whether the SSI controller waits
+abbrev pub waitsAt : Phase → Bool
+waitsAt Waiting = true
+waitsAt (Clocking t) = false
+waitsAt (Recovering n) = false
+
+abbrev pub waitsAs : Mode → Bool
+waitsAs (Off z) = false
+waitsAs Counting = false
+waitsAs (Reading p) = waitsAt p
+
+abbrev pub waits : Channel → Bool
+waits c = waitsAs (c .mode)
+
+-- the timer's request meets the controller as it was before the tick; a transmission that it starts begins with the next tick
+abbrev pub operated : Levels → Levels → Bool → Channel → Channel
+operated x y expired c = cond (waits c) (timerRequested expired c) (worked x y (timerRequested expired c))
+
 -- the whole tick, with the levels on the channel's lines and input; `expired` says that the interval timer did
 unfoldable pub channelTicked : Levels → Bool → Bool → Channel → Channel
-channelTicked x i expired c =
-  worked (levelsOf (c .lines)) (levelsOf (linesTicked x (c .lines))) (timerRequested expired (observed x i c))
+channelTicked x i expired c = operated (levelsOf (c .lines)) (levelsOf (linesTicked x (c .lines))) expired (observed x i c)

@@ -53,16 +53,16 @@ controlRefused w = flagOf w 24 || ltb 1 (fieldOf w 25 2)
 -- the settings of a word
 abbrev pub controlOf : ℕ → SsiControl
 controlOf w =
-  record {
-    rate = fieldOf w 0 12;
-    «data_bits» = fieldOf w 12 5 + 1;
-    «extra_bits» = fieldOf w 17 3;
-    check = checkAt (fieldOf w 20 2);
-    odd = flagOf w 22;
-    code = codeAt (flagOf w 23);
-    start = startAt (flagOf w 25);
-    delay = fieldOf w 27 5
-  }
+    record {
+      rate = fieldOf w 0 12;
+      «data_bits» = fieldOf w 12 5 + 1;
+      «extra_bits» = fieldOf w 17 3;
+      check = checkAt (fieldOf w 20 2);
+      odd = flagOf w 22;
+      code = codeAt (flagOf w 23);
+      start = startAt (flagOf w 25);
+      delay = fieldOf w 27 5;
+    }
 
 abbrev pub decoded : ℕ → Result SsiControl Refusal
 decoded w = cond (controlRefused w) (Err Setting) (Ok (controlOf w))
@@ -70,7 +70,7 @@ decoded w = cond (controlRefused w) (Err Setting) (Ok (controlOf w))
 -- the word that shows the settings
 abbrev pub controlWord : SsiControl → ℕ
 controlWord c =
-  fieldOf (c .rate) 0 12 + fieldAt 12 (fieldOf (c .«data_bits» - 1) 0 5) + fieldAt 17 (fieldOf (c .«extra_bits») 0 3) + fieldAt 20 (fieldOf (checkField (c .check)) 0 2) + bitAt 22 (c .odd) + bitAt 23 (grayBit (c .code)) + bitAt 25 (timerBit (c .start)) + fieldAt 27 (fieldOf (c .delay) 0 5)
+    fieldOf (c .rate) 0 12 + fieldAt 12 (fieldOf (c .«data_bits» - 1) 0 5) + fieldAt 17 (fieldOf (c .«extra_bits») 0 3) + fieldAt 20 (fieldOf (checkField (c .check)) 0 2) + bitAt 22 (c .odd) + bitAt 23 (grayBit (c .code)) + bitAt 25 (timerBit (c .start)) + fieldAt 27 (fieldOf (c .delay) 0 5)
 
 -- the parity bit of a frame
 abbrev pub oddOrEven : Bool → Span → Parity

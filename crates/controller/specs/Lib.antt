@@ -1,3 +1,4 @@
 pub mod Control
 pub mod Phase
 pub mod Registers
+pub mod Timing

@@ -3,7 +3,6 @@ use mathlib.Core.Bool.{Bool, true, false, cond, not}
 use Prim.Native.Nat.{ℕ, _+_, _-_, _*_, _%_, _^_}
 use lib.Dec.{eqb, ltb}
 use Rattle.frame.specs.Layout.{frameBits}
-use Rattle.frame.specs.declared.format.Format.{Format}
 use Rattle.controller.specs.declared.phase.Transmission.{Transmission}
 use Rattle.controller.specs.declared.phase.Phase.{Phase}
 use Rattle.controller.specs.declared.phase.Phase.the-variants.{Waiting, Clocking, Recovering}
@@ -13,7 +12,7 @@ use Rattle.controller.specs.declared.phase.Due.the-variants.{Nothing, Toggle, 
 -- a transmission with another clock level, number of rises, wait, word and fault
 abbrev pub clocked : Transmission → Bool → ℕ → ℕ → ℕ → Bool → Transmission
 clocked t high rises wait word fault =
-  record { half = t .half; format = t .format; high = high; rises = rises; wait = wait; word = word; fault = fault }
+    record { half = t .half; format = t .format; high = high; rises = rises; wait = wait; word = word; fault = fault }
 
 -- a word with one more bit at its low end
 abbrev pub pushed : ℕ → Bool → ℕ

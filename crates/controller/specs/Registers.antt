@@ -80,15 +80,15 @@ result x t = record { word = readAs t .number; fault = faulty x t }
 -- and what it leaves in the registers
 abbrev pub concluded : Bool → Transmission → Ssi → Ssi
 concluded x t s =
-  record {
-    control = s .control;
-    «while_busy» = s .«while_busy»;
-    «extra_status» = readAs t .extra;
-    fault = faulty x t;
-    «parity_status» = readAs t .«parity_bit»;
-    «parity_error» = readAs t .«parity_error»;
-    word = readAs t .number
-  }
+    record {
+      control = s .control;
+      «while_busy» = s .«while_busy»;
+      «extra_status» = readAs t .extra;
+      fault = faulty x t;
+      «parity_status» = readAs t .«parity_bit»;
+      «parity_error» = readAs t .«parity_error»;
+      word = readAs t .number;
+    }
 
 abbrev pub completedBy : Due → Bool → Phase → Option Completed
 completedBy Nothing x p = None
@@ -117,4 +117,4 @@ ticked x p s = recorded (dueOf p) x p s
 -- the SSI Mode Status word: bits 14 to 12 read 0
 abbrev pub statusWord : Bool → Bool → Ssi → ℕ
 statusWord active busy s =
-  0 + bitAt 0 busy + bitAt 1 (s .«parity_error») + bitAt 2 (s .«parity_status») + bitAt 3 (s .fault) + fieldAt 4 (fieldOf (s .«extra_status») 0 8) + bitAt 15 active + bitAt 16 (s .«while_busy»)
+    bitAt 0 busy + bitAt 1 (s .«parity_error») + bitAt 2 (s .«parity_status») + bitAt 3 (s .fault) + fieldAt 4 (fieldOf (s .«extra_status») 0 8) + bitAt 15 active + bitAt 16 (s .«while_busy»)

@@ -1,7 +1,6 @@
 //! The SSI Mode Control word, decoded once when it is written.
 ghost use mathlib.Core.Path.{_≡_};
 ghost use Rattle.controller.specs.Control.{codeAt, checkAt, checkField, controlWord, decoded, formatOf, grayBit, parityOf, startAt, timerBit};
-
 use bits::field;
 use bits::flag;
 use bits::with_bit;
@@ -88,7 +87,11 @@ impl ParityCheck {
             ParityCheck::Extra => Span::Extra,
             ParityCheck::Both => Span::Both,
         };
-        if odd { Parity::Odd(span) } else { Parity::Even(span) }
+        if odd {
+            Parity::Odd(span)
+        } else {
+            Parity::Even(span)
+        }
     }
 }
 

@@ -2,8 +2,13 @@
 ghost use mathlib.Core.Path.{_≡_};
 ghost use Rattle.controller.specs.Phase.{activeIn, busyIn, clockOf, dueOf, fell, pushed, rose, stepped, toggled};
 ghost use Rattle.controller.specs.declared.phase.Phase.the-variants.{Waiting};
-
 use frame::format::Format;
+
+/// Ticks from the last rise of the clock to completion.
+const SETTLING: u32 = 500;
+
+/// Ticks from completion to the end of recovery, 3,100 ticks after the last rise.
+const RECOVERY: u32 = 2_600;
 
 /// A transmission under way, with the settings that it was started with.
 #[derive(Clone, Copy)]
@@ -74,7 +79,11 @@ impl Transmission {
         ensures { λ _. ⌜ now (self .exit) ≡ rose (now (self .entry)) ⌝ }
     {
         self.high = true;
-        self.wait = if self.rises < self.format.bits() { self.half.saturating_sub(1) } else { 499 };
+        self.wait = if self.rises < self.format.bits() {
+            self.half.saturating_sub(1)
+        } else {
+            SETTLING - 1
+        };
         self.rises = self.rises.wrapping_add(1);
     }
 
@@ -105,7 +114,11 @@ impl Phase {
                     Due::Toggle
                 }
             }
-            Phase::Recovering { left } => if *left > 0 { Due::Nothing } else { Due::Completion },
+            Phase::Recovering { left } => if *left > 0 {
+                Due::Nothing
+            } else {
+                Due::Completion
+            },
         }
     }
 
@@ -116,7 +129,9 @@ impl Phase {
         match (&mut *self, due) {
             (Phase::Clocking(t), Due::Nothing) => t.wait = t.wait.saturating_sub(1),
             (Phase::Clocking(t), Due::Toggle) => t.toggle(level),
-            (Phase::Clocking(_), Due::Completion) => *self = Phase::Recovering { left: 2599 },
+            (Phase::Clocking(_), Due::Completion) => *self = Phase::Recovering {
+                left: RECOVERY - 1,
+            },
             (Phase::Recovering { left }, Due::Nothing) => *left = left.saturating_sub(1),
             (Phase::Recovering { .. }, Due::Completion) => *self = Phase::Waiting,
             (_, Due::Drop) => *self = Phase::Waiting,

@@ -2,16 +2,15 @@
 ghost use mathlib.Core.Path.{_≡_};
 ghost use Rattle.controller.specs.Phase.{phaseTicked};
 ghost use Rattle.controller.specs.Registers.{begun, completedBy, completion, concluded, controlAnswer, controlWritten, phaseRequested, powerOn, recorded, requested, result, statusWord, ticked};
-
-use bits::field;
-use bits::with_bit;
-use bits::with_field;
 use crate::control::ParityCheck;
 use crate::control::SsiControl;
 use crate::control::Start;
 use crate::phase::Due;
 use crate::phase::Phase;
 use crate::phase::Transmission;
+use bits::field;
+use bits::with_bit;
+use bits::with_field;
 use frame::format::Code;
 use frame::reader::read_frame;
 use refusal::Refusal;
@@ -125,7 +124,10 @@ impl Ssi {
         self.parity_status = reading.parity_bit;
         self.parity_error = reading.parity_error;
         self.word = reading.number;
-        Completed { word: reading.number, fault }
+        Completed {
+            word: reading.number,
+            fault,
+        }
     }
 
     /// What is due concludes a transmission or leaves the registers.
@@ -134,7 +136,10 @@ impl Ssi {
         ensures after { λ _. ⌜ now (self .exit) ≡ recorded due level (now (phase .entry)) (now (self .entry)) ⌝ }
     {
         match (phase, due) {
-            (Phase::Clocking(transmission), Due::Completion) => Some(self.conclude(transmission, level)),
+            (Phase::Clocking(transmission), Due::Completion) => Some(self.conclude(
+                transmission,
+                level,
+            )),
             _ => None,
         }
     }
@@ -155,7 +160,7 @@ impl Ssi {
     pub fn status(&self, active: bool, busy: bool) -> u32
         ensures { λ r. ⌜ r ≡ statusWord active busy (now (self .entry)) ⌝ }
     {
-        let w = with_bit(0, 0, busy);
+        let w = u32::from(busy);
         let w = with_bit(w, 1, self.parity_error);
         let w = with_bit(w, 2, self.parity_status);
         let w = with_bit(w, 3, self.fault);

@@ -1,7 +1,7 @@
 -- A frame that is sent is read back.
-use mathlib.Core.Path.{_≡_, refl, sym, ap, ap₂, subst, _∙_}
-use mathlib.Core.Bool.{Bool, true, false, cond}
-use Prim.Native.Nat.{ℕ, _+_, _-_, _*_, _/_, _%_, _^_, _<_, _≤_, min}
+use mathlib.Core.Path.{_≡_, refl, sym, ap, subst, _∙_}
+use mathlib.Core.Bool.{false}
+use Prim.Native.Nat.{ℕ, _+_, _-_, _*_, _/_, _%_, _^_, _<_, _≤_}
 use native.Mathlib.Nat.{mod-eq-of-lt}
 use native.Mathlib.Omega.{arith}
 use lib.Bits.{bitAnd, and-block, and-mask}
@@ -10,9 +10,8 @@ use lib.Dec.{eqb}
 use lib.Pow.{pow-mono}
 use Rattle.std.proofs.shelf.Bits.{mul-add-lt, pow-add, shr-shr, shr-high, mod-low}
 use Rattle.std.proofs.shelf.Tests.{ne-eqb}
-use Rattle.frame.specs.Gray.{grayWord, ungray}
-use Rattle.frame.specs.Layout.{codedAs, decodedAs, dataBits, extraBits, parityBits, frameBits, bodyOf, sentParity, parityFor, parityOnes, parityMask, coveredBits, parityShown, parityWrong, parityFails, frameWord, readingOf}
-use Rattle.frame.specs.ReadBack.{Carries, ReadAs, FrameFits, ReadsBack}
+use Rattle.frame.specs.Layout.{codedAs, decodedAs, dataBits, extraBits, parityBits, bodyOf, parityFor, parityOnes, coveredBits, parityShown, parityWrong, frameWord, readingOf}
+use Rattle.frame.specs.ReadBack.{Carries, FrameFits, ReadsBack}
 use Rattle.frame.specs.declared.format.Code.{Code}
 use Rattle.frame.specs.declared.format.Code.the-variants.{Binary, Gray}
 use Rattle.frame.specs.declared.format.Span.{Span}

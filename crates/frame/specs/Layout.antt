@@ -1,5 +1,5 @@
 -- The layout of a frame word: data bits, extra bits, parity bit, highest first.
-use mathlib.Core.Bool.{Bool, true, false}
+use mathlib.Core.Bool.{Bool, false}
 use Prim.Native.Nat.{ℕ, _+_, _-_, _*_, _/_, _%_, _^_, min}
 use lib.Bits.{bitAnd}
 use lib.Count.{ones}

@@ -1,11 +1,12 @@
 //! What a tick does to a channel.
 ghost use mathlib.Core.Path.{_≡_};
-ghost use Rattle.channel.specs.Ticks.{channelTicked, newChannel, finished, raisedBoth, requested, timerRequested, worked};
+ghost use Rattle.channel.specs.Ticks.{channelTicked, newChannel, finished, raisedBoth, requested, timerRequested, waits, worked};
 use super::Channel;
 use crate::lines::Lines;
 use crate::mode::Mode;
 use crate::mode::OffCode;
 use controller::control::Start;
+use controller::phase::Phase;
 use controller::registers::Completed;
 use controller::registers::Ssi;
 use counter::counter::Counter;
@@ -71,6 +72,16 @@ impl Channel {
         }
     }
 
+    /// Whether the SSI controller waits: then only a request makes it work.
+    fn is_waiting(&self) -> bool
+        ensures { λ r. ⌜ r ≡ waits (now (self .entry)) ⌝ }
+    {
+        match self.mode {
+            Mode::Ssi(Phase::Waiting) => true,
+            _ => false,
+        }
+    }
+
     /// The working part's tick, with the levels before it and after it.
     fn work(&mut self, before: Levels, after: Levels)
         ensures { λ _. ⌜ now (self .exit) ≡ worked before after (now (self .entry)) ⌝ }
@@ -96,7 +107,11 @@ impl Channel {
         self.lines.tick(lines);
         self.input.tick(input);
         let after = self.lines.levels();
+        let waiting = self.is_waiting();
         self.request_by_timer(expired);
-        self.work(before, after);
+        // A transmission that the timer starts in this tick begins with the next one.
+        if !waiting {
+            self.work(before, after);
+        }
     }
 }

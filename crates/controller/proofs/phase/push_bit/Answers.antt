@@ -1,8 +1,7 @@
-use mathlib.Core.Path.{_≡_, _∙_, ap}
+use mathlib.Core.Path.{_≡_}
 use mathlib.Core.Bool.{cond}
-use Prim.Native.Nat.{_+_, _*_, _%_, _^_, _<_}
+use Prim.Native.Nat.{_*_, _%_, _^_, _<_}
 use native.Mathlib.Omega.{arith}
-use lib.Bits.{bitOr}
 use Rattle.std.proofs.shelf.Bits.{or-shifted}
 use borrow.Author.Needs.{needs}
 use Rattle.controller.proofs.phase.push_bit.Needs as need

@@ -1,7 +1,7 @@
-use mathlib.Core.Path.{_≡_, refl, sym, ap, subst, _∙_}
-use Prim.Native.Nat.{ℕ, suc, _+_, _-_}
+use mathlib.Core.Path.{_≡_}
+use Prim.Native.Nat.{suc, _+_, _-_}
 use native.Mathlib.Omega.{arith}
-use lib.Bits.{bitXor, xor-zero-l}
+use lib.Bits.{bitXor}
 use Rattle.frame.specs.Gray.{ungray}
 use Rattle.frame.proofs.GrayWords.{ungray-turn, ungray-none}
 use Rattle.frame.proofs.gray.from_gray.Needs as need

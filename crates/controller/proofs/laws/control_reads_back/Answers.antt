@@ -1,0 +1,5 @@
+use Rattle.controller.proofs.ControlWords.{control-reads-back}
+use Rattle.controller.proofs.laws.control_reads_back.Needs as need
+
+pub returns : need.returns
+returns c = control-reads-back
