@@ -4,7 +4,7 @@ use mathlib.Core.List.{List}
 use Prim.Native.Nat.{ℕ}
 use lib.ListN.{getD, set}
 use Rattle.filter.specs.declared.debounce.TimeBase.the-variants.{Ns30}
-use Rattle.filter.specs.Filters.{fresh}
+use Rattle.filter.specs.Filters.{newTiming, noSamples}
 use Rattle.frame.specs.declared.format.Code.the-variants.{Binary}
 use Rattle.counter.specs.Counters.{powerOnCounter}
 use Rattle.controller.specs.declared.control.ParityCheck.the-variants.{Off as NoCheck}
@@ -28,7 +28,7 @@ withTable cs c = record { channels = cs; shared = c .shared }
 abbrev pub blank : Channel
 blank = record {
   lines = newLines 0; debounce = record { base = Ns30; time = 0 };
-  input = record { filter = fresh 0; debounced = false; rising = quiet; falling = quiet };
+  input = record { timing = newTiming 0; samples = noSamples; debounced = false; rising = quiet; falling = quiet };
   mode = Off Zeros; counter = powerOnCounter;
   ssi = record {
     control = record { rate = 0; «data_bits» = 0; «extra_bits» = 0; check = NoCheck; odd = false; code = Binary; start = Request; delay = 0 };

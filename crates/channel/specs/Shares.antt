@@ -44,7 +44,7 @@ abbrev pub acknowledgedInterrupts : Bool → Bool → Channel → Channel
 acknowledgedInterrupts v f c = withInterrupts (acknowledged v (c .valid)) (acknowledged f (c .fault)) c
 
 abbrev pub withEdges : Interrupt → Interrupt → Input → Input
-withEdges r f i = record { filter = i .filter; debounced = i .debounced; rising = r; falling = f }
+withEdges r f i = record { timing = i .timing; samples = i .samples; debounced = i .debounced; rising = r; falling = f }
 
 abbrev pub edgesEnabled : Bool → Bool → Channel → Channel
 edgesEnabled r f c = withInput (withEdges (enabledTo r (c .input .rising)) (enabledTo f (c .input .falling)) (c .input)) c
@@ -97,7 +97,7 @@ unfoldable pub bitOf : Bit → Channel → Bool
 bitOf SnapshotEnabled c = c .snapshot .enabled
 bitOf Collecting c = isCollecting (c .snapshot)
 bitOf Unread c = isUnread (c .snapshot)
-bitOf InputLevel c = c .input .filter .level
+bitOf InputLevel c = c .input .samples .level
 bitOf InputDebounced c = c .input .debounced
 bitOf Output c = c .output
 bitOf ValidEnabled c = c .valid .enabled

@@ -1,15 +1,18 @@
 //! The filters of a channel's three lines.
+ghost use mathlib.Core.Bool.{true};
 ghost use mathlib.Core.Path.{_≡_};
-ghost use Rattle.channel.specs.Lines.{levelsOf, linesRestarted, linesTicked, newLines};
+ghost use Rattle.channel.specs.Lines.{levelsOf, linesRestarted, linesSampled, linesTicked, newLines};
 use counter_count::levels::Levels;
-use filter::row::FilterRow;
+use filter::samples::Samples;
+use filter::timing::FilterTiming;
 
-/// A filter for each line: A, B (SSI data) and I.
+/// A filter for each line: A, B (SSI data) and I. They have one debouncing register, so they sample together.
 #[derive(Clone, Copy)]
 pub struct Lines {
-    pub a: FilterRow,
-    pub b: FilterRow,
-    pub i: FilterRow,
+    pub timing: FilterTiming,
+    pub a: Samples,
+    pub b: Samples,
+    pub i: Samples,
 }
 
 impl Lines {
@@ -17,18 +20,28 @@ impl Lines {
         ensures { λ r. ⌜ r ≡ newLines period ⌝ }
     {
         Lines {
-            a: FilterRow::new(period),
-            b: FilterRow::new(period),
-            i: FilterRow::new(period),
+            timing: FilterTiming::new(period),
+            a: Samples::power_on(),
+            b: Samples::power_on(),
+            i: Samples::power_on(),
         }
+    }
+
+    /// A sample of every line.
+    fn sample(&mut self, seen: Levels)
+        ensures { λ _. ⌜ now (self .exit) ≡ linesSampled true seen (now (self .entry)) ⌝ }
+    {
+        self.a.tick(true, seen.a);
+        self.b.tick(true, seen.b);
+        self.i.tick(true, seen.i);
     }
 
     pub(crate) fn tick(&mut self, seen: Levels)
         ensures { λ _. ⌜ now (self .exit) ≡ linesTicked seen (now (self .entry)) ⌝ }
     {
-        self.a.tick(seen.a);
-        self.b.tick(seen.b);
-        self.i.tick(seen.i);
+        if self.timing.tick() {
+            self.sample(seen);
+        }
     }
 
     /// What the card sees of the lines.
@@ -42,12 +55,10 @@ impl Lines {
         }
     }
 
-    /// A new period for all three.
+    /// A new period for all three; samples and levels stay.
     pub(crate) fn restart(&mut self, period: u64)
         ensures { λ _. ⌜ now (self .exit) ≡ linesRestarted period (now (self .entry)) ⌝ }
     {
-        self.a.restart(period);
-        self.b.restart(period);
-        self.i.restart(period);
+        self.timing = FilterTiming::new(period);
     }
 }

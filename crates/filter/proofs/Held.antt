@@ -5,28 +5,37 @@ use Prim.Native.Nat.{ℕ, zero, suc, _+_, _*_, _<_, _≤_}
 use native.Mathlib.Omega.{arith}
 use lib.Dec.{eqb, ltb}
 use lib.ListN.{replicate}
-use Rattle.std.proofs.shelf.Tests.{eqb-true, eqb-false, lt-ltb, cond-both}
-use Rattle.filter.specs.declared.row.FilterRow.{FilterRow}
-use Rattle.filter.specs.Filters.{checked, filtered, looked, passed, sampled, same, settled}
+use Rattle.std.proofs.shelf.Tests.{eqb-true, eqb-false, lt-ltb}
+use Rattle.filter.specs.declared.samples.Samples.{Samples}
+use Rattle.filter.specs.declared.timing.FilterTiming.{FilterTiming}
+use Rattle.filter.specs.Filters.{checked, clockTicked, isDue, lineFiltered, same, samplesIn, settled, taken, ticked}
 use Rattle.filter.specs.Settling.{filteredOver, Settles}
 
 -- the line has been v for the last m ticks
-pub record Held (v : Bool) (m : ℕ) (r : FilterRow) : Type 0 where
-  pub sound : r .phase < r .period
-  pub one : r .phase < m → r .last ≡ v
-  pub two : r .phase + r .period < m → r .before ≡ v
-  pub three : r .phase + 2 * r .period < m → r .level ≡ v
+pub record Held (v : Bool) (m : ℕ) (t : FilterTiming) (s : Samples) : Type 0 where
+  pub sound : t .phase < t .period
+  pub one : t .phase < m → s .last ≡ v
+  pub two : t .phase + t .period < m → s .before ≡ v
+  pub three : t .phase + 2 * t .period < m → s .level ≡ v
 
-pub held-none : (v : Bool) (r : FilterRow) → r .phase < r .period → Held v 0 r
-held-none v r h = record {
+pub held-none : (v : Bool) (t : FilterTiming) (s : Samples) → t .phase < t .period → Held v 0 t s
+held-none v t s h = record {
   sound = h; one = λ k. absurd (omega arith); two = λ k. absurd (omega arith); three = λ k. absurd (omega arith) }
 
-pub held-level : (v : Bool) (m : ℕ) (r : FilterRow) → Held v m r → 3 * r .period ≤ m → r .level ≡ v
-held-level v m r h l = h .three (omega (arith, h .sound))
+pub held-level : (v : Bool) (m : ℕ) (t : FilterTiming) (s : Samples) → Held v m t s → 3 * t .period ≤ m → s .level ≡ v
+held-level v m t s h l = h .three (omega (arith, h .sound))
 
--- a filter whose phase is below its period passes its check
-pub checked-sound : (r : FilterRow) → r .phase < r .period → checked r ≡ r
-checked-sound r h = rw (lt-ltb (r .phase) (r .period) h) refl
+-- numbers whose phase is below the period pass the check
+pub checked-sound : (t : FilterTiming) → t .phase < t .period → checked t ≡ t
+checked-sound t h = rw (lt-ltb (t .phase) (t .period) h) refl
+
+pub due-sound : (t : FilterTiming) → t .phase < t .period → samplesIn t ≡ isDue t
+unfolding samplesIn
+due-sound t h = ap isDue (checked-sound t h)
+
+pub ticked-sound : (t : FilterTiming) → t .phase < t .period → ticked t ≡ clockTicked t
+unfolding ticked
+ticked-sound t h = ap clockTicked (checked-sound t h)
 
 three-same : (v l : Bool) → cond (same v v && same v v) v l ≡ v
 three-same true l = refl
@@ -35,49 +44,46 @@ three-same false l = refl
 three-equal : (v a b l : Bool) → a ≡ v → b ≡ v → cond (same v a && same v b) v l ≡ v
 three-equal v a b l p q = rw (p, q) (three-same v l)
 
-held-sampled : (v : Bool) (m : ℕ) (r : FilterRow) → Held v m r → Held v (m + 1) (sampled r v)
-held-sampled v m r h = go (eqb (r .phase + 1) (r .period)) refl
+held-due : (v : Bool) (m : ℕ) (t : FilterTiming) (s : Samples) → Held v m t s → Held v (m + 1) (clockTicked t) (lineFiltered (isDue t) v s)
+held-due v m t s h = go (isDue t) refl
   where
-    go : (b : Bool) → eqb (r .phase + 1) (r .period) ≡ b → Held v (m + 1) (cond b (looked r v) (passed r))
+    go : (b : Bool) → isDue t ≡ b → Held v (m + 1) (record { period = t .period; phase = cond b 0 (t .phase + 1) }) (cond b (taken v s) s)
     go true e =
-        let q : r .phase + 1 ≡ r .period = eqb-true _ _ e in
+        let q : t .phase + 1 ≡ t .period = eqb-true _ _ e in
         record {
           sound = omega (arith, h .sound); one = λ _. refl; two = λ k. h .one (omega arith);
-          three = λ k. three-equal v (r .last) (r .before) (r .level) (h .one (omega arith)) (h .two (omega arith)) }
+          three = λ k. three-equal v (s .last) (s .before) (s .level) (h .one (omega arith)) (h .two (omega arith)) }
     go false e =
         record {
           sound = omega (arith, eqb-false _ _ e, h .sound); one = λ k. h .one (omega arith); two = λ k. h .two (omega arith);
           three = λ k. h .three (omega arith) }
 
--- a filter whose phase is below its period is its own checked row
-pub filtered-sound : (r : FilterRow) (x : Bool) → r .phase < r .period → filtered r x ≡ sampled r x
-unfolding filtered
-filtered-sound r x h = ap (λ (q : FilterRow). sampled q x) (checked-sound r h)
-
 -- one tick more
-pub held-tick : (v : Bool) (m : ℕ) (r : FilterRow) → Held v m r → Held v (m + 1) (filtered r v)
-held-tick v m r h =
-    let P : FilterRow → Type 0 = λ q. Held v (m + 1) q in
-    subst P (sym (filtered-sound r v (h .sound))) (held-sampled v m r h)
+pub held-tick : (v : Bool) (m : ℕ) (t : FilterTiming) (s : Samples) → Held v m t s → Held v (m + 1) (ticked t) (lineFiltered (samplesIn t) v s)
+held-tick v m t s h =
+    let P : FilterTiming → Type 0 = λ q. Held v (m + 1) q (lineFiltered (samplesIn t) v s) in
+    let Q : Bool → Type 0 = λ b. Held v (m + 1) (clockTicked t) (lineFiltered b v s) in
+    subst P (sym (ticked-sound t (h .sound))) (subst Q (sym (due-sound t (h .sound))) (held-due v m t s h))
 
--- a tick keeps the period, whatever the line does
-pub tick-period : (r : FilterRow) (x : Bool) → r .phase < r .period → filtered r x .period ≡ r .period
-tick-period r x h =
-    ap (λ (q : FilterRow). q .period) (filtered-sound r x h)
-    ∙ cond-both (eqb (r .phase + 1) (r .period)) (looked r x) (passed r) (λ q. q .period ≡ r .period) (λ _. refl) (λ _. refl)
+-- a tick keeps the period
+pub tick-period : (t : FilterTiming) → t .phase < t .period → ticked t .period ≡ t .period
+tick-period t h = ap (λ (q : FilterTiming). q .period) (ticked-sound t h)
 
 -- and a phase below it
-pub tick-sound : (r : FilterRow) (x : Bool) → r .phase < r .period → filtered r x .phase < filtered r x .period
-tick-sound r x h =
-    let P : FilterRow → Type 0 = λ q. q .phase < q .period in
-    subst P (sym (filtered-sound r x h))
-      (cond-both (eqb (r .phase + 1) (r .period)) (looked r x) (passed r) P (λ _. omega arith) (λ e. omega (arith, eqb-false _ _ e)))
+pub tick-sound : (t : FilterTiming) → t .phase < t .period → ticked t .phase < ticked t .period
+tick-sound t h =
+    let P : FilterTiming → Type 0 = λ q. q .phase < q .period in
+    subst P (sym (ticked-sound t h)) (go (isDue t) refl)
+  where
+    go : (b : Bool) → isDue t ≡ b → cond b 0 (t .phase + 1) < t .period
+    go true e = omega arith
+    go false e = omega (arith, eqb-false _ _ e)
 
-held-over : (v : Bool) (n m : ℕ) (r : FilterRow) → Held v m r → 3 * r .period ≤ m + n
-    → filteredOver r (replicate n v) .level ≡ v
-held-over v zero m r h l = held-level v m r h (omega arith)
-held-over v (suc n) m r h l =
-    held-over v n (m + 1) (filtered r v) (held-tick v m r h) (omega (arith, tick-period r v (h .sound)))
+held-over : (v : Bool) (n m : ℕ) (t : FilterTiming) (s : Samples) → Held v m t s → 3 * t .period ≤ m + n
+    → filteredOver t s (replicate n v) .level ≡ v
+held-over v zero m t s h l = held-level v m t s h (omega arith)
+held-over v (suc n) m t s h l =
+    held-over v n (m + 1) (ticked t) (lineFiltered (samplesIn t) v s) (held-tick v m t s h) (omega (arith, tick-period t (h .sound)))
 
 pub settles : Settles
-settles r x n h l = held-over x n 0 r (held-none x r h) (omega arith)
+settles t s x n h l = held-over x n 0 t s (held-none x t s h) (omega arith)

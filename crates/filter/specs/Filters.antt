@@ -1,48 +1,52 @@
--- What a debounce filter is, and what a tick does to it.
+-- A debounce filter: when it samples its line, and what it makes of the samples.
 use mathlib.Core.Bool.{Bool, true, false, cond, not, _&&_}
 use Prim.Native.Nat.{ℕ, _+_}
 use lib.Dec.{eqb, ltb}
-use Rattle.filter.specs.declared.row.FilterRow.{FilterRow}
-use Rattle.filter.specs.declared.filter.Filter.{Filter}
+use Rattle.filter.specs.declared.clock.FilterClock.{FilterClock}
+use Rattle.filter.specs.declared.samples.Samples.{Samples}
+use Rattle.filter.specs.declared.timing.FilterTiming.{FilterTiming}
 
--- a filter's plain numbers
-abbrev pub rowOf : Filter → FilterRow
-rowOf f = record { period = f .period; phase = f .phase; last = f .last; before = f .before; level = f .level }
+-- the two numbers of a filter's clock
+abbrev pub timingOf : FilterClock → FilterTiming
+timingOf c = record { period = c .period; phase = c .phase }
 
--- the filter of a line that has been 0 so far
-abbrev pub fresh : ℕ → FilterRow
-fresh p = record { period = p; phase = 0; last = false; before = false; level = false }
+-- the first sample comes in the last tick of the first period
+abbrev pub newTiming : ℕ → FilterTiming
+newTiming p = record { period = p; phase = 0 }
 
--- a row whose numbers no filter has is taken with period 1 and phase 0
-abbrev pub checked : FilterRow → FilterRow
-checked r = record {
-  period = cond (ltb (r .phase) (r .period)) (r .period) 1;
-  phase = cond (ltb (r .phase) (r .period)) (r .phase) 0;
-  last = r .last; before = r .before; level = r .level }
+-- numbers that no filter has are taken as period 1 and phase 0
+abbrev pub checked : FilterTiming → FilterTiming
+checked t = record { period = cond (ltb (t .phase) (t .period)) (t .period) 1; phase = cond (ltb (t .phase) (t .period)) (t .phase) 0 }
+
+-- a filter samples in each period's last tick
+abbrev pub isDue : FilterTiming → Bool
+isDue t = eqb (t .phase + 1) (t .period)
+
+abbrev pub clockTicked : FilterTiming → FilterTiming
+clockTicked t = record { period = t .period; phase = cond (isDue t) 0 (t .phase + 1) }
+
+-- whether the filter with these numbers samples in this tick, and its numbers after it
+unfoldable pub samplesIn : FilterTiming → Bool
+samplesIn t = isDue (checked t)
+
+unfoldable pub ticked : FilterTiming → FilterTiming
+ticked t = clockTicked (checked t)
+
+-- a line that has been 0 so far
+abbrev pub noSamples : Samples
+noSamples = record { last = false; before = false; level = false }
 
 abbrev pub same : Bool → Bool → Bool
 same x y = cond x y (not y)
 
 -- the level after a sample x: that sample where it equals the two before it
-abbrev pub settled : FilterRow → Bool → Bool
-settled r x = cond (same x (r .last) && same x (r .before)) x (r .level)
+abbrev pub settled : Bool → Samples → Bool
+settled x s = cond (same x (s .last) && same x (s .before)) x (s .level)
 
--- a tick with a sample x
-abbrev pub looked : FilterRow → Bool → FilterRow
-looked r x = record { period = r .period; phase = 0; last = x; before = r .last; level = settled r x }
+-- one more sample
+abbrev pub taken : Bool → Samples → Samples
+taken x s = record { last = x; before = s .last; level = settled x s }
 
--- a tick without one
-abbrev pub passed : FilterRow → FilterRow
-passed r = record { period = r .period; phase = r .phase + 1; last = r .last; before = r .before; level = r .level }
-
--- a tick of a filter: a sample in each period's last tick
-abbrev pub sampled : FilterRow → Bool → FilterRow
-sampled r x = cond (eqb (r .phase + 1) (r .period)) (looked r x) (passed r)
-
--- a tick of the filter of a row
-unfoldable pub filtered : FilterRow → Bool → FilterRow
-filtered r x = sampled (checked r) x
-
--- a new period, from its start; samples and level stay
-abbrev pub restarted : ℕ → FilterRow → FilterRow
-restarted p r = record { period = p; phase = 0; last = r .last; before = r .before; level = r .level }
+-- a line's tick
+abbrev pub lineFiltered : Bool → Bool → Samples → Samples
+lineFiltered due x s = cond due (taken x s) s

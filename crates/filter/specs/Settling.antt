@@ -2,17 +2,18 @@
 use mathlib.Core.Bool.{Bool}
 use mathlib.Core.List.{List, [], _∷_}
 use mathlib.Core.Path.{_≡_}
-use Prim.Native.Nat.{ℕ, _+_, _*_, _<_, _≤_}
+use Prim.Native.Nat.{ℕ, _*_, _<_, _≤_}
 use lib.ListN.{replicate}
-use Rattle.filter.specs.declared.row.FilterRow.{FilterRow}
-use Rattle.filter.specs.Filters.{filtered}
+use Rattle.filter.specs.declared.samples.Samples.{Samples}
+use Rattle.filter.specs.declared.timing.FilterTiming.{FilterTiming}
+use Rattle.filter.specs.Filters.{lineFiltered, samplesIn, ticked}
 
--- the filter after a tick for each level of the line, in their order
-abbrev pub filteredOver : FilterRow → List Bool → FilterRow
-filteredOver r [] = r
-filteredOver r (x ∷ xs) = filteredOver (filtered r x) xs
+-- the samples after a tick for each level of the line, in their order
+abbrev pub filteredOver : FilterTiming → Samples → List Bool → Samples
+filteredOver t s [] = s
+filteredOver t s (x ∷ xs) = filteredOver (ticked t) (lineFiltered (samplesIn t) x s) xs
 
 -- a line that stands still for three periods is seen, whatever the filter was in the middle of
 abbrev pub Settles : Type 0
-Settles = (r : FilterRow) (x : Bool) (n : ℕ) → r .phase < r .period → 3 * r .period ≤ n
-    → filteredOver r (replicate n x) .level ≡ x
+Settles = (t : FilterTiming) (s : Samples) (x : Bool) (n : ℕ) → t .phase < t .period → 3 * t .period ≤ n
+    → filteredOver t s (replicate n x) .level ≡ x

@@ -2,12 +2,14 @@
 ghost use mathlib.Core.Path.{_≡_};
 ghost use Rattle.parts.specs.Inputs.{debouncedBy, inputTicked, newInput, raisedBy};
 use crate::interrupt::Interrupt;
-use filter::row::FilterRow;
+use filter::samples::Samples;
+use filter::timing::FilterTiming;
 
 /// The 24 V input of a channel.
 #[derive(Clone, Copy)]
 pub struct Input {
-    pub filter: FilterRow,
+    pub timing: FilterTiming,
+    pub samples: Samples,
     /// ADE: the filter has the period of the shared debouncing register, and not one tick.
     pub debounced: bool,
     pub rising: Interrupt,
@@ -19,7 +21,8 @@ impl Input {
         ensures { λ r. ⌜ r ≡ newInput ⌝ }
     {
         Input {
-            filter: FilterRow::new(1),
+            timing: FilterTiming::new(1),
+            samples: Samples::power_on(),
             debounced: false,
             rising: Interrupt::power_on(),
             falling: Interrupt::power_on(),
@@ -38,9 +41,10 @@ impl Input {
     pub fn tick(&mut self, level: bool)
         ensures { λ _. ⌜ now (self .exit) ≡ inputTicked level (now (self .entry)) ⌝ }
     {
-        let before = self.filter.level;
-        self.filter.tick(level);
-        self.raise_edges(before, self.filter.level);
+        let before = self.samples.level;
+        let due = self.timing.tick();
+        self.samples.tick(due, level);
+        self.raise_edges(before, self.samples.level);
     }
 
     /// ADE and the shared period, as a write of the debouncing register sets them; the phase restarts.
@@ -48,6 +52,6 @@ impl Input {
         ensures { λ _. ⌜ now (self .exit) ≡ debouncedBy on period (now (self .entry)) ⌝ }
     {
         self.debounced = on;
-        self.filter.restart(if on { period } else { 1 });
+        self.timing = FilterTiming::new(if on { period } else { 1 });
     }
 }

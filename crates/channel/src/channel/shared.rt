@@ -119,7 +119,7 @@ impl Channel {
             Bit::SnapshotEnabled => self.snapshot.enabled,
             Bit::Collecting => self.snapshot.collecting(),
             Bit::Unread => self.snapshot.unread(),
-            Bit::Input => self.input.filter.level,
+            Bit::Input => self.input.samples.level,
             Bit::InputDebounced => self.input.debounced,
             Bit::Output => self.output,
             Bit::ValidEnabled => self.valid.enabled,

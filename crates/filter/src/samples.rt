@@ -1,0 +1,49 @@
+//! What a debounce filter has sampled of one line.
+ghost use mathlib.Core.Path.{_≡_};
+ghost use Rattle.filter.specs.Filters.{lineFiltered, noSamples, taken};
+ghost use Rattle.filter.specs.Settling.{Settles};
+
+/// The samples of one line, and the level that they settled.
+#[derive(Clone, Copy)]
+pub struct Samples {
+    /// The last sample.
+    pub last: bool,
+    /// The sample before it.
+    pub before: bool,
+    /// What registers and counters see of the line.
+    pub level: bool,
+}
+
+impl Samples {
+    /// A line that has been 0 so far.
+    pub fn power_on() -> Samples
+        ensures { λ r. ⌜ r ≡ noSamples ⌝ }
+    {
+        Samples {
+            last: false,
+            before: false,
+            level: false,
+        }
+    }
+
+    /// One more sample; the level follows three that are equal.
+    fn take(&mut self, line: bool)
+        ensures { λ _. ⌜ now (self .exit) ≡ taken line (now (self .entry)) ⌝ }
+    {
+        if line == self.last && line == self.before {
+            self.level = line;
+        }
+        self.before = self.last;
+        self.last = line;
+    }
+
+    /// One tick with the line at the given level; `due` says that the filter samples in it.
+    pub fn tick(&mut self, due: bool, line: bool)
+        ensures after { λ _. ⌜ now (self .exit) ≡ lineFiltered due line (now (self .entry)) ⌝ }
+        ensures settles { λ _. ⌜ Settles ⌝ }
+    {
+        if due {
+            self.take(line);
+        }
+    }
+}
