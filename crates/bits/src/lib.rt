@@ -40,5 +40,9 @@ pub fn with_bit(word: u32, place: u32, bit: bool) -> u32
     ensures answer { λ r. ⌜ r ≡ word + bitAt place bit ⌝ }
     ensures below { λ r. ⌜ r < 2 ^ (place + 1) ⌝ }
 {
-    if bit { with_field(word, place, 1, 1) } else { word }
+    if bit {
+        with_field(word, place, 1, 1)
+    } else {
+        word
+    }
 }

@@ -27,13 +27,26 @@ withTable cs c = record { channels = cs; shared = c .shared }
 -- a record of zeros, which no access ever reads: the table has all eight places
 abbrev pub blank : Channel
 blank = record {
-  lines = newLines 0; debounce = record { base = Ns30; time = 0 };
+  lines = newLines 0;
+  debounce = record { base = Ns30; time = 0 };
   input = record { timing = newTiming 0; samples = noSamples; debounced = false; rising = quiet; falling = quiet };
-  mode = Off Zeros; counter = powerOnCounter;
+  mode = Off Zeros;
+  counter = powerOnCounter;
   ssi = record {
     control = record { rate = 0; «data_bits» = 0; «extra_bits» = 0; check = NoCheck; odd = false; code = Binary; start = Request; delay = 0 };
-    «while_busy» = false; «extra_status» = 0; fault = false; «parity_status» = false; «parity_error» = false; word = 0 };
-  snapshot = emptied; valid = quiet; fault = quiet; output = false; «test_output» = false }
+    «while_busy» = false;
+    «extra_status» = 0;
+    fault = false;
+    «parity_status» = false;
+    «parity_error» = false;
+    word = 0;
+  };
+  snapshot = emptied;
+  valid = quiet;
+  fault = quiet;
+  output = false;
+  «test_output» = false;
+}
 
 -- the record of channel k
 abbrev pub channelOf : ℕ → Card → Channel

@@ -48,16 +48,16 @@ edgesRead c = cond (c .shared .«clear_on_read») (onAll (AcknowledgeEdges 42949
 -- what the register at an offset shows
 abbrev pub registerValue : ℕ → Card → ℕ
 registerValue o c =
-  cond (inChannels o) (registerShown (placeAt o) (channelOf (channelAt o) c))
-  (cond (inSnapshots o) (channelOf (snapshotAt o) c .snapshot .word) (registerWord o c))
+    cond (inChannels o) (registerShown (placeAt o) (channelOf (channelAt o) c))
+    (cond (inSnapshots o) (channelOf (snapshotAt o) c .snapshot .word) (registerWord o c))
 
 -- the card after a read of it
 abbrev pub registerRead : ℕ → Card → Card
 registerRead o c =
-  cond (inChannels o) (withChannel (channelAt o) (registerTaken (placeAt o) (channelOf (channelAt o) c)) c)
-  (cond (eqb o 392) (interruptsRead c)
-  (cond (eqb o 396) (edgesRead c)
-  (cond (inSnapshots o)
+    cond (inChannels o) (withChannel (channelAt o) (registerTaken (placeAt o) (channelOf (channelAt o) c)) c)
+    (cond (eqb o 392) (interruptsRead c)
+    (cond (eqb o 396) (edgesRead c)
+    (cond (inSnapshots o)
     (withChannel (snapshotAt o) (withSnapshot (afterReading (channelOf (snapshotAt o) c .snapshot)) (channelOf (snapshotAt o) c)) c) c)))
 
 -- whether a write is refused for what it sets
@@ -67,4 +67,4 @@ settingChecked o v = cond (inChannels o) (registerAnswer (placeAt o) v) (Ok tt)
 -- the card after a write that is not refused
 abbrev pub registerSet : ℕ → ℕ → Card → Card
 registerSet o v c =
-  cond (inChannels o) (withChannel (channelAt o) (registerWritten (placeAt o) v (channelOf (channelAt o) c)) c) (sharedWritten o v c)
+    cond (inChannels o) (withChannel (channelAt o) (registerWritten (placeAt o) v (channelOf (channelAt o) c)) c) (sharedWritten o v c)

@@ -40,16 +40,16 @@ unlessCleared k c = cond (c .shared .«clear_on_read») c k
 -- a write outside the channels' spans
 abbrev pub sharedWritten : ℕ → ℕ → Card → Card
 sharedWritten o v c =
-  cond (eqb o 0) (controlWritten v c) (
-  cond (eqb o 4) (commanded v c) (
-  cond (eqb o 340) (inputsDebounced v c) (
-  cond (eqb o 352) (withShared (outputsEnabled v (c .shared)) c) (
-  cond (eqb o 356) (onAll (Output v) c) (
-  cond (eqb o 368) (withShared (withTimer (timerWritten v (c .shared .timer)) (c .shared .«timer_interrupt») (c .shared)) c) (
-  cond (eqb o 372) (withShared (withTimer (timerPreloaded v (c .shared .timer)) (c .shared .«timer_interrupt») (c .shared)) c) (
-  cond (eqb o 384) (interruptsEnabled v c) (
-  cond (eqb o 388) (onAll (EnableEdges v) c) (
-  cond (eqb o 392) (unlessCleared (acknowledgedAll v c) c) (
-  cond (eqb o 396) (unlessCleared (onAll (AcknowledgeEdges v) c) c) (
-  cond (eqb o 496) (onAll (TestOutput v) c) (
-  cond (eqb o 504) (withShared (withScratchpad v (c .shared)) c) c))))))))))))
+    cond (eqb o 0) (controlWritten v c) (
+    cond (eqb o 4) (commanded v c) (
+    cond (eqb o 340) (inputsDebounced v c) (
+    cond (eqb o 352) (withShared (outputsEnabled v (c .shared)) c) (
+    cond (eqb o 356) (onAll (Output v) c) (
+    cond (eqb o 368) (withShared (withTimer (timerWritten v (c .shared .timer)) (c .shared .«timer_interrupt») (c .shared)) c) (
+    cond (eqb o 372) (withShared (withTimer (timerPreloaded v (c .shared .timer)) (c .shared .«timer_interrupt») (c .shared)) c) (
+    cond (eqb o 384) (interruptsEnabled v c) (
+    cond (eqb o 388) (onAll (EnableEdges v) c) (
+    cond (eqb o 392) (unlessCleared (acknowledgedAll v c) c) (
+    cond (eqb o 396) (unlessCleared (onAll (AcknowledgeEdges v) c) c) (
+    cond (eqb o 496) (onAll (TestOutput v) c) (
+    cond (eqb o 504) (withShared (withScratchpad v (c .shared)) c) c))))))))))))

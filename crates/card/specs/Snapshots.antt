@@ -29,8 +29,8 @@ noneHas b cs = eqb (gathered (Single b) cs) 0
 -- MCR STA: 11 after an overflow, else 01 while a channel collects, else 10 while one is unread, else 00
 abbrev pub statusOf : Card → SnapshotStatus
 statusOf c =
-  cond (c .shared .overflow) Overflow
-  (cond (noneHas CollectingBit (c .channels)) (cond (noneHas UnreadBit (c .channels)) Idle Unread) Collecting)
+    cond (c .shared .overflow) Overflow
+    (cond (noneHas CollectingBit (c .channels)) (cond (noneHas UnreadBit (c .channels)) Idle Unread) Collecting)
 
 -- a trigger: overflow where the status was other than 00, and every enabled channel gives its word
 abbrev pub triggered : Card → Card

@@ -45,7 +45,10 @@ impl Card {
     {
         let word = self.register(0x18C);
         if self.shared.clear_on_read {
-            act_on_all(&mut self.channels, Act::AcknowledgeEdges { word: 0xFFFF_FFFF });
+            act_on_all(
+                &mut self.channels,
+                Act::AcknowledgeEdges { word: 0xFFFF_FFFF },
+            );
         }
         word
     }
@@ -63,7 +66,11 @@ impl Card {
             }
             0x188 => Ok(self.read_interrupts()),
             0x18C => Ok(self.read_edges()),
-            0x190..0x1B0 => Ok(self.channels[((offset - 0x190) / 4) as usize].snapshot.read()),
+            0x190..0x1B0 => Ok(
+                self.channels[((offset - 0x190) / 4) as usize]
+                    .snapshot
+                    .read(),
+            ),
             _ => Ok(self.register(offset)),
         }
     }
@@ -77,7 +84,8 @@ impl Card {
         match offset {
             0x010..0x150 => {
                 let place = offset - 0x010;
-                self.channels[(place / 0x28) as usize].write(place % 0x28, value)?;
+                self.channels[(place / 0x28) as usize]
+                    .write(place % 0x28, value)?;
             }
             _ => self.write_shared(offset, value),
         }

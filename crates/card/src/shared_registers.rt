@@ -54,7 +54,10 @@ impl Card {
             0x180 => self.enable_interrupts(value),
             0x184 => act_on_all(&mut self.channels, Act::EnableEdges { word: value }),
             0x188 if !self.shared.clear_on_read => self.acknowledge(value),
-            0x18C if !self.shared.clear_on_read => act_on_all(&mut self.channels, Act::AcknowledgeEdges { word: value }),
+            0x18C if !self.shared.clear_on_read => act_on_all(
+                &mut self.channels,
+                Act::AcknowledgeEdges { word: value },
+            ),
             0x1F0 => act_on_all(&mut self.channels, Act::TestOutput { word: value }),
             0x1F8 => self.shared.scratchpad = value,
             _ => {}

@@ -25,7 +25,12 @@ impl Card {
         ensures { λ r. ⌜ r ≡ controlWord (now (self .entry)) ⌝ }
     {
         let word = gather(&self.channels, Share::Mode);
-        let word = with_field(word, 16, 8, gather(&self.channels, Share::Single(Bit::SnapshotEnabled)));
+        let word = with_field(
+            word,
+            16,
+            8,
+            gather(&self.channels, Share::Single(Bit::SnapshotEnabled)),
+        );
         let word = with_bit(word, 24, self.shared.timer_triggers);
         with_bit(word, 25, self.shared.test_enabled)
     }
@@ -85,7 +90,12 @@ impl Card {
         ensures { λ r. ⌜ r ≡ testWord (now (self .entry) .channels) ⌝ }
     {
         let word = gather(&self.channels, Share::Lines);
-        with_field(word, 24, 8, gather(&self.channels, Share::Single(Bit::TestOutput)))
+        with_field(
+            word,
+            24,
+            8,
+            gather(&self.channels, Share::Single(Bit::TestOutput)),
+        )
     }
 
     /// The shared register at an offset as it reads; others read 0.

@@ -22,8 +22,12 @@ use Rattle.channel.specs.Registers.{registerAnswer, registerWritten}
 
 -- a counter with the settings of a decoded word
 abbrev settledTo : Result Control Refusal → Counter → Counter
-settledTo r n = record { count = settled r (n .count); compare = n .compare; latched = n .latched;
-  flags = flagsSettled r (n .count .control .index) (n .flags) }
+settledTo r n = record {
+  count = settled r (n .count);
+  compare = n .compare;
+  latched = n .latched;
+  flags = flagsSettled r (n .count .control .index) (n .flags);
+}
 
 settled-leaves : (r : Result Control Refusal) (n : Counter) (e : Refusal) → settledAnswer r ≡ Err e → settledTo r n ≡ n
 settled-leaves (Ok k) n e q = let z : _≡_ {A = ℕ} 0 1 = cc in absurd (omega arith)

@@ -10,15 +10,21 @@ newLines p = record { timing = newTiming p; a = noSamples; b = noSamples; i = no
 
 -- each line's filter, in a tick in which they sample or not
 abbrev pub linesSampled : Bool → Levels → Lines → Lines
-linesSampled due x l = record { timing = l .timing;
-  a = lineFiltered due (x .a) (l .a); b = lineFiltered due (x .b) (l .b); i = lineFiltered due (x .i) (l .i) }
+linesSampled due x l = record {
+  timing = l .timing;
+  a = lineFiltered due (x .a) (l .a);
+  b = lineFiltered due (x .b) (l .b);
+  i = lineFiltered due (x .i) (l .i);
+}
 
 -- a tick of all three
 abbrev pub linesTicked : Levels → Lines → Lines
-linesTicked x l = record { timing = ticked (l .timing);
+linesTicked x l = record {
+  timing = ticked (l .timing);
   a = lineFiltered (samplesIn (l .timing)) (x .a) (l .a);
   b = lineFiltered (samplesIn (l .timing)) (x .b) (l .b);
-  i = lineFiltered (samplesIn (l .timing)) (x .i) (l .i) }
+  i = lineFiltered (samplesIn (l .timing)) (x .i) (l .i);
+}
 
 -- what the card sees of the lines
 abbrev pub levelsOf : Lines → Levels

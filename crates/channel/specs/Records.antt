@@ -12,13 +12,35 @@ use Rattle.channel.specs.declared.channel.Channel.{Channel}
 
 -- the parts that work: mode, counter, SSI registers, snapshot and interrupts
 abbrev pub working : Channel → Mode → Counter → Ssi → Snapshot → Interrupt → Interrupt → Channel
-working c m n s p v f = record { lines = c .lines; debounce = c .debounce; input = c .input; mode = m; counter = n; ssi = s;
-  snapshot = p; valid = v; fault = f; output = c .output; «test_output» = c .«test_output» }
+working c m n s p v f = record {
+  lines = c .lines;
+  debounce = c .debounce;
+  input = c .input;
+  mode = m;
+  counter = n;
+  ssi = s;
+  snapshot = p;
+  valid = v;
+  fault = f;
+  output = c .output;
+  «test_output» = c .«test_output»;
+}
 
 -- the parts that see the field
 abbrev pub seeing : Channel → Lines → Debounce → Input → Channel
-seeing c l d i = record { lines = l; debounce = d; input = i; mode = c .mode; counter = c .counter; ssi = c .ssi;
-  snapshot = c .snapshot; valid = c .valid; fault = c .fault; output = c .output; «test_output» = c .«test_output» }
+seeing c l d i = record {
+  lines = l;
+  debounce = d;
+  input = i;
+  mode = c .mode;
+  counter = c .counter;
+  ssi = c .ssi;
+  snapshot = c .snapshot;
+  valid = c .valid;
+  fault = c .fault;
+  output = c .output;
+  «test_output» = c .«test_output»;
+}
 
 abbrev pub withMode : Mode → Channel → Channel
 withMode m c = working c m (c .counter) (c .ssi) (c .snapshot) (c .valid) (c .fault)
@@ -39,5 +61,16 @@ abbrev pub withInput : Input → Channel → Channel
 withInput i c = seeing c (c .lines) (c .debounce) i
 
 abbrev pub withOutputs : Bool → Bool → Channel → Channel
-withOutputs o t c = record { lines = c .lines; debounce = c .debounce; input = c .input; mode = c .mode; counter = c .counter; ssi = c .ssi;
-  snapshot = c .snapshot; valid = c .valid; fault = c .fault; output = o; «test_output» = t }
+withOutputs o t c = record {
+  lines = c .lines;
+  debounce = c .debounce;
+  input = c .input;
+  mode = c .mode;
+  counter = c .counter;
+  ssi = c .ssi;
+  snapshot = c .snapshot;
+  valid = c .valid;
+  fault = c .fault;
+  output = o;
+  «test_output» = t;
+}

@@ -53,14 +53,14 @@ registerAnswer o v = cond (eqb o 0) (ssiControlAnswer v) (cond (eqb o 8) (contro
 -- 0x18 Counter Mode Command (in Counter Mode alone), 0x1C Debouncing, 0x20 Data (a request at START 00); others ignore it
 unfoldable pub registerWritten : ℕ → ℕ → Channel → Channel
 registerWritten o v c =
-  cond (eqb o 0) (withSsi (ssiControlWritten v (c .ssi)) c) (
-  cond (eqb o 8) (withCounter (controlWritten v (c .counter)) c) (
-  cond (eqb o 12) (withCounter (statusCleared v (c .counter)) c) (
-  cond (eqb o 16) (withCounter (preloadWritten v (c .counter)) c) (
-  cond (eqb o 20) (withCounter (compareWritten v (c .counter)) c) (
-  cond (eqb o 24) (cond (inCounterMode c) (commandWritten v c) c) (
-  cond (eqb o 28) (debounceWritten v c) (
-  cond (eqb o 32) (cond (takesRequests c) (requested c) c) c)))))))
+    cond (eqb o 0) (withSsi (ssiControlWritten v (c .ssi)) c) (
+    cond (eqb o 8) (withCounter (controlWritten v (c .counter)) c) (
+    cond (eqb o 12) (withCounter (statusCleared v (c .counter)) c) (
+    cond (eqb o 16) (withCounter (preloadWritten v (c .counter)) c) (
+    cond (eqb o 20) (withCounter (compareWritten v (c .counter)) c) (
+    cond (eqb o 24) (cond (inCounterMode c) (commandWritten v c) c) (
+    cond (eqb o 28) (debounceWritten v c) (
+    cond (eqb o 32) (cond (takesRequests c) (requested c) c) c)))))))
 
 -- the Data Register: 0 where the channel is off, the count or the latched count, the last completed word
 abbrev pub dataShownAs : Mode → Channel → ℕ
@@ -92,14 +92,14 @@ ssiStatusShown c = ssiStatusShownAs (c .mode) c
 -- a read; the Counter Mode Command Register, 0x18, and the reserved word, 0x24, read 0
 unfoldable pub registerShown : ℕ → Channel → ℕ
 registerShown o c =
-  cond (eqb o 0) (ssiControlWord (c .ssi .control)) (
-  cond (eqb o 4) (ssiStatusShown c) (
-  cond (eqb o 8) (controlWord (c .counter .count .control)) (
-  cond (eqb o 12) (statusShown (c .counter)) (
-  cond (eqb o 16) (c .counter .count .preload) (
-  cond (eqb o 20) (c .counter .compare) (
-  cond (eqb o 28) (debounceWord (c .debounce)) (
-  cond (eqb o 32) (dataShown c) 0)))))))
+    cond (eqb o 0) (ssiControlWord (c .ssi .control)) (
+    cond (eqb o 4) (ssiStatusShown c) (
+    cond (eqb o 8) (controlWord (c .counter .count .control)) (
+    cond (eqb o 12) (statusShown (c .counter)) (
+    cond (eqb o 16) (c .counter .count .preload) (
+    cond (eqb o 20) (c .counter .compare) (
+    cond (eqb o 28) (debounceWord (c .debounce)) (
+    cond (eqb o 32) (dataShown c) 0)))))))
 
 -- of the channel's registers only the Data Register is altered by a read
 unfoldable pub registerTaken : ℕ → Channel → Channel

@@ -24,8 +24,19 @@ use Rattle.channel.specs.Records.{seeing, withCounter, withInterrupts, withMod
 
 -- at power-on a channel is off, and its filters sample every three ticks
 abbrev pub newChannel : Channel
-newChannel = record { lines = newLines (periodOf reset); debounce = reset; input = newInput; mode = Off Zeros;
-  counter = powerOnCounter; ssi = powerOnSsi; snapshot = emptied; valid = quiet; fault = quiet; output = false; «test_output» = false }
+newChannel = record {
+  lines = newLines (periodOf reset);
+  debounce = reset;
+  input = newInput;
+  mode = Off Zeros;
+  counter = powerOnCounter;
+  ssi = powerOnSsi;
+  snapshot = emptied;
+  valid = quiet;
+  fault = quiet;
+  output = false;
+  «test_output» = false;
+}
 
 -- causes of the channel's two interrupts
 abbrev pub raisedBoth : Bool → Bool → Channel → Channel
@@ -53,19 +64,18 @@ timerRequestedAs Timer c = requested c
 abbrev pub timerRequested : Bool → Channel → Channel
 timerRequested expired c = cond expired (timerRequestedAs (c .ssi .control .start) c) c
 
--- the working part, with the filtered levels before the tick and after it
-abbrev pub workedAs : Mode → Levels → Levels → Channel → Channel
-workedAs (Off z) x y c = c
-workedAs Counting x y c = raisedBoth (tickCauses x y (c .counter) .matched) (tickCauses x y (c .counter) .control) (withCounter (ticked x y (c .counter)) c)
-workedAs (Reading p) x y c = finished (completion (y .b) p)
-  (withMode (Reading (phaseTicked (y .b) p)) (withSsi (ssiTicked (y .b) p (c .ssi)) c))
+-- Counter Mode
+abbrev pub counted : Levels → Levels → Channel → Channel
+counted x y c = raisedBoth (tickCauses x y (c .counter) .matched) (tickCauses x y (c .counter) .control) (withCounter (ticked x y (c .counter)) c)
 
-abbrev pub worked : Levels → Levels → Channel → Channel
-worked x y c = workedAs (c .mode) x y c
+-- the controller's tick, with the filtered data level
+abbrev pub transmittedAs : Mode → Bool → Channel → Channel
+transmittedAs (Off z) x c = c
+transmittedAs Counting x c = c
+transmittedAs (Reading p) x c = finished (completion x p) (withMode (Reading (phaseTicked x p)) (withSsi (ssiTicked x p (c .ssi)) c))
 
--- filters and input edges
-abbrev pub observed : Levels → Bool → Channel → Channel
-observed x i c = seeing c (linesTicked x (c .lines)) (c .debounce) (inputTicked i (c .input))
+abbrev pub transmitted : Bool → Channel → Channel
+transmitted x c = transmittedAs (c .mode) x c
 
 -- whether the SSI controller waits
 abbrev pub waitsAt : Phase → Bool
@@ -81,10 +91,23 @@ waitsAs (Reading p) = waitsAt p
 abbrev pub waits : Channel → Bool
 waits c = waitsAs (c .mode)
 
--- the timer's request meets the controller as it was before the tick; a transmission that it starts begins with the next tick
-abbrev pub operated : Levels → Levels → Bool → Channel → Channel
-operated x y expired c = cond (waits c) (timerRequested expired c) (worked x y (timerRequested expired c))
+-- SSI mode: the timer's request meets the controller as it was before the tick; a transmission that it starts begins with the next one
+abbrev pub ssiWorked : Bool → Bool → Channel → Channel
+ssiWorked x expired c = cond (waits c) (timerRequested expired c) (transmitted x (timerRequested expired c))
+
+-- the working part, with the filtered levels before the tick and after it; B carries the SSI data
+abbrev pub workedAs : Mode → Levels → Levels → Bool → Channel → Channel
+workedAs (Off z) x y expired c = c
+workedAs Counting x y expired c = counted x y c
+workedAs (Reading p) x y expired c = ssiWorked (y .b) expired c
+
+abbrev pub worked : Levels → Levels → Bool → Channel → Channel
+worked x y expired c = workedAs (c .mode) x y expired c
+
+-- filters and input edges
+abbrev pub observed : Levels → Bool → Channel → Channel
+observed x i c = seeing c (linesTicked x (c .lines)) (c .debounce) (inputTicked i (c .input))
 
 -- the whole tick, with the levels on the channel's lines and input; `expired` says that the interval timer did
 unfoldable pub channelTicked : Levels → Bool → Bool → Channel → Channel
-channelTicked x i expired c = operated (levelsOf (c .lines)) (levelsOf (linesTicked x (c .lines))) expired (observed x i c)
+channelTicked x i expired c = worked (levelsOf (c .lines)) (levelsOf (linesTicked x (c .lines))) expired (observed x i c)

@@ -20,7 +20,11 @@ pub record Held (v : Bool) (m : ℕ) (t : FilterTiming) (s : Samples) : Type 0 w
 
 pub held-none : (v : Bool) (t : FilterTiming) (s : Samples) → t .phase < t .period → Held v 0 t s
 held-none v t s h = record {
-  sound = h; one = λ k. absurd (omega arith); two = λ k. absurd (omega arith); three = λ k. absurd (omega arith) }
+  sound = h;
+  one = λ k. absurd (omega arith);
+  two = λ k. absurd (omega arith);
+  three = λ k. absurd (omega arith);
+}
 
 pub held-level : (v : Bool) (m : ℕ) (t : FilterTiming) (s : Samples) → Held v m t s → 3 * t .period ≤ m → s .level ≡ v
 held-level v m t s h l = h .three (omega (arith, h .sound))
@@ -51,12 +55,18 @@ held-due v m t s h = go (isDue t) refl
     go true e =
         let q : t .phase + 1 ≡ t .period = eqb-true _ _ e in
         record {
-          sound = omega (arith, h .sound); one = λ _. refl; two = λ k. h .one (omega arith);
-          three = λ k. three-equal v (s .last) (s .before) (s .level) (h .one (omega arith)) (h .two (omega arith)) }
+          sound = omega (arith, h .sound);
+          one = λ _. refl;
+          two = λ k. h .one (omega arith);
+          three = λ k. three-equal v (s .last) (s .before) (s .level) (h .one (omega arith)) (h .two (omega arith));
+        }
     go false e =
         record {
-          sound = omega (arith, eqb-false _ _ e, h .sound); one = λ k. h .one (omega arith); two = λ k. h .two (omega arith);
-          three = λ k. h .three (omega arith) }
+          sound = omega (arith, eqb-false _ _ e, h .sound);
+          one = λ k. h .one (omega arith);
+          two = λ k. h .two (omega arith);
+          three = λ k. h .three (omega arith);
+        }
 
 -- one tick more
 pub held-tick : (v : Bool) (m : ℕ) (t : FilterTiming) (s : Samples) → Held v m t s → Held v (m + 1) (ticked t) (lineFiltered (samplesIn t) v s)

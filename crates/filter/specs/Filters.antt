@@ -1,7 +1,10 @@
 -- A debounce filter: when it samples its line, and what it makes of the samples.
 use mathlib.Core.Bool.{Bool, true, false, cond, not, _&&_}
 use Prim.Native.Nat.{ℕ, _+_}
+use mathlib.Core.Path.{_≡_}
 use lib.Dec.{eqb, ltb}
+use Rattle.std.specs.declared.option.Option.{Option}
+use Rattle.std.specs.declared.option.Option.the-variants.{Some, None}
 use Rattle.filter.specs.declared.clock.FilterClock.{FilterClock}
 use Rattle.filter.specs.declared.samples.Samples.{Samples}
 use Rattle.filter.specs.declared.timing.FilterTiming.{FilterTiming}
@@ -16,7 +19,16 @@ newTiming p = record { period = p; phase = 0 }
 
 -- numbers that no filter has are taken as period 1 and phase 0
 abbrev pub checked : FilterTiming → FilterTiming
-checked t = record { period = cond (ltb (t .phase) (t .period)) (t .period) 1; phase = cond (ltb (t .phase) (t .period)) (t .phase) 0 }
+checked t = cond (ltb (t .phase) (t .period)) t (newTiming 1)
+
+-- whether a filter can have the numbers
+abbrev pub fits : FilterTiming → Bool
+fits t = ltb (t .phase) (t .period)
+
+-- the clock made from plain numbers, where a filter can have them
+abbrev pub clockMade : FilterTiming → Option FilterClock → Type 0
+clockMade t (Some c) = (fits t ≡ true) × (timingOf c ≡ t)
+clockMade t None = fits t ≡ false
 
 -- a filter samples in each period's last tick
 abbrev pub isDue : FilterTiming → Bool
@@ -46,6 +58,10 @@ settled x s = cond (same x (s .last) && same x (s .before)) x (s .level)
 -- one more sample
 abbrev pub taken : Bool → Samples → Samples
 taken x s = record { last = x; before = s .last; level = settled x s }
+
+-- all samples and the level are the line's own
+abbrev pub steadyAt : Bool → Samples → Bool
+steadyAt x s = same x (s .last) && (same x (s .before) && same x (s .level))
 
 -- a line's tick
 abbrev pub lineFiltered : Bool → Bool → Samples → Samples

@@ -16,8 +16,13 @@ withFilter i t s = record { timing = t; samples = s; debounced = i .debounced; r
 
 -- the edge interrupts of a level that went from x to y
 abbrev pub raisedBy : Bool → Bool → Input → Input
-raisedBy x y i = record { timing = i .timing; samples = i .samples; debounced = i .debounced;
-  rising = raised (not x && y) (i .rising); falling = raised (x && not y) (i .falling) }
+raisedBy x y i = record {
+  timing = i .timing;
+  samples = i .samples;
+  debounced = i .debounced;
+  rising = raised (not x && y) (i .rising);
+  falling = raised (x && not y) (i .falling);
+}
 
 -- the filter's samples after a tick
 abbrev pub sampledInput : Bool → Input → Samples
@@ -29,5 +34,10 @@ inputTicked x i = raisedBy (i .samples .level) (sampledInput x i .level) (withFi
 
 -- a write of the debouncing register restarts the filter; ADE 0 means a period of one tick
 abbrev pub debouncedBy : Bool → ℕ → Input → Input
-debouncedBy on p i = record { timing = newTiming (cond on p 1); samples = i .samples; debounced = on;
-  rising = i .rising; falling = i .falling }
+debouncedBy on p i = record {
+  timing = newTiming (cond on p 1);
+  samples = i .samples;
+  debounced = on;
+  rising = i .rising;
+  falling = i .falling;
+}

@@ -85,6 +85,7 @@ keeps-interval t on n = go (t .preload) refl
     Goal : Type 0
     Goal = (n + 1 < interval t → expires (later n (loaded t)) ≡ false)
         × (n + 1 ≡ interval t → (expires (later n (loaded t)) ≡ true) × (ticked (later n (loaded t)) ≡ loaded t))
+
     go : (p : ℕ) → t .preload ≡ p → Goal
     go zero e =
         let z : interval t ≡ 0 = ap (λ p. p * baseTicks (t .base)) e ∙ zero-mul (baseTicks (t .base)) in
@@ -94,9 +95,11 @@ keeps-interval t on n = go (t .preload) refl
         let b : baseTicks (t .base) ≡ suc k = base-pos (t .base) .1 in
         let l : loaded t ≡ at t p k = loaded-at t p k on e b in
         let i : interval t ≡ p * baseTicks (t .base) + baseTicks (t .base) =
-            ap (λ q. q * baseTicks (t .base)) e ∙ suc-mul p (baseTicks (t .base)) in
-        ( λ h. ap (λ (q : Timer). expires (later n q)) l ∙ silent t k b n p k (omega arith)
-        , λ h.
-            let d : later n (loaded t) ≡ at t 0 0 = ap (λ (q : Timer). later n q) l ∙ due t k b n p k (omega arith) in
-            ( ap (λ (q : Timer). expires q) d
-            , ap (λ (q : Timer). ticked q) d ∙ again t on ) )
+        ap (λ q. q * baseTicks (t .base)) e ∙ suc-mul p (baseTicks (t .base)) in (
+          λ h. ap (λ (q : Timer). expires (later n q)) l ∙ silent t k b n p k (omega arith),
+          λ h.
+              let d : later n (loaded t) ≡ at t 0 0 = ap (λ (q : Timer). later n q) l ∙ due t k b n p k (omega arith) in (
+                ap (λ (q : Timer). expires q) d,
+                ap (λ (q : Timer). ticked q) d ∙ again t on,
+              ),
+        )

@@ -72,10 +72,19 @@ impl Channel {
             Act::Snapshot => self.trigger(),
             Act::DebounceInput { word, period } => self.input.debounce(flag(word, 24 + k), period),
             Act::Output { word } => self.output = flag(word, k),
-            Act::EnableInterrupts { word } => self.enable_interrupts(flag(word, k), flag(word, 8 + k)),
-            Act::AcknowledgeInterrupts { word } => self.acknowledge_interrupts(flag(word, k), flag(word, 8 + k)),
+            Act::EnableInterrupts { word } => self.enable_interrupts(
+                flag(word, k),
+                flag(word, 8 + k),
+            ),
+            Act::AcknowledgeInterrupts { word } => self.acknowledge_interrupts(
+                flag(word, k),
+                flag(word, 8 + k),
+            ),
             Act::EnableEdges { word } => self.enable_edges(flag(word, k), flag(word, 8 + k)),
-            Act::AcknowledgeEdges { word } => self.acknowledge_edges(flag(word, k), flag(word, 8 + k)),
+            Act::AcknowledgeEdges { word } => self.acknowledge_edges(
+                flag(word, k),
+                flag(word, 8 + k),
+            ),
             Act::TestOutput { word } => self.test_output = flag(word, 24 + k),
         }
     }

@@ -1,6 +1,6 @@
 //! What a tick does to a channel.
 ghost use mathlib.Core.Path.{_≡_};
-ghost use Rattle.channel.specs.Ticks.{channelTicked, newChannel, finished, raisedBoth, requested, timerRequested, waits, worked};
+ghost use Rattle.channel.specs.Ticks.{channelTicked, counted, finished, newChannel, raisedBoth, requested, ssiWorked, timerRequested, transmitted, waits, worked};
 use super::Channel;
 use crate::lines::Lines;
 use crate::mode::Mode;
@@ -82,20 +82,43 @@ impl Channel {
         }
     }
 
-    /// The working part's tick, with the levels before it and after it.
-    fn work(&mut self, before: Levels, after: Levels)
-        ensures { λ _. ⌜ now (self .exit) ≡ worked before after (now (self .entry)) ⌝ }
+    fn count(&mut self, before: Levels, after: Levels)
+        ensures { λ _. ⌜ now (self .exit) ≡ counted before after (now (self .entry)) ⌝ }
     {
-        match &mut self.mode {
+        let causes = self.counter.tick(before, after);
+        self.raise(causes.matched, causes.control);
+    }
+
+    /// The controller's tick, with the filtered data level.
+    fn transmit(&mut self, level: bool)
+        ensures { λ _. ⌜ now (self .exit) ≡ transmitted level (now (self .entry)) ⌝ }
+    {
+        if let Mode::Ssi(phase) = &mut self.mode {
+            let completed = self.ssi.tick(phase, level);
+            self.finish(completed);
+        }
+    }
+
+    /// An SSI channel's tick. The timer's request meets the controller as it was before the tick; a transmission that
+    /// it starts begins with the next one.
+    fn work_ssi(&mut self, level: bool, expired: bool)
+        ensures { λ _. ⌜ now (self .exit) ≡ ssiWorked level expired (now (self .entry)) ⌝ }
+    {
+        let waiting = self.is_waiting();
+        self.request_by_timer(expired);
+        if !waiting {
+            self.transmit(level);
+        }
+    }
+
+    /// The working part's tick, with the levels before it and after it.
+    fn work(&mut self, before: Levels, after: Levels, expired: bool)
+        ensures { λ _. ⌜ now (self .exit) ≡ worked before after expired (now (self .entry)) ⌝ }
+    {
+        match self.mode {
             Mode::Off(_) => {}
-            Mode::Counter => {
-                let causes = self.counter.tick(before, after);
-                self.raise(causes.matched, causes.control);
-            }
-            Mode::Ssi(phase) => {
-                let completed = self.ssi.tick(phase, after.b);
-                self.finish(completed);
-            }
+            Mode::Counter => self.count(before, after),
+            Mode::Ssi(_) => self.work_ssi(after.b, expired),
         }
     }
 
@@ -107,11 +130,6 @@ impl Channel {
         self.lines.tick(lines);
         self.input.tick(input);
         let after = self.lines.levels();
-        let waiting = self.is_waiting();
-        self.request_by_timer(expired);
-        // A transmission that the timer starts in this tick begins with the next one.
-        if !waiting {
-            self.work(before, after);
-        }
+        self.work(before, after, expired);
     }
 }

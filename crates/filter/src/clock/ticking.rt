@@ -1,30 +1,26 @@
 //! What a filter's clock does in a tick, and how the table's numbers become a clock and numbers again.
 ghost use mathlib.Core.Path.{_≡_};
-ghost use Rattle.filter.specs.Filters.{checked, clockTicked, isDue, newTiming, samplesIn, ticked, timingOf};
+ghost use Rattle.filter.specs.Filters.{clockMade, clockTicked, isDue, newTiming, samplesIn, ticked, timingOf};
 use super::FilterClock;
 use crate::timing::FilterTiming;
 
 impl FilterClock {
-    /// The clock of two plain numbers; numbers that no filter has are taken as period 1 and phase 0.
-    pub fn from_timing(timing: FilterTiming) -> FilterClock
-        ensures { λ r. ⌜ timingOf r ≡ checked timing ⌝ }
+    /// The clock of two plain numbers, if a filter can have them.
+    pub fn from_timing(timing: FilterTiming) -> Option<FilterClock>
+        ensures { λ r. ⌜ clockMade timing r ⌝ }
     {
         let FilterTiming { period, phase } = timing;
         if phase < period {
-            FilterClock { period, phase }
+            Some(FilterClock { period, phase })
         } else {
-            FilterClock { period: 1, phase: 0 }
+            None
         }
     }
 
-    /// The numbers that the table keeps.
-    pub fn timing(&self) -> FilterTiming
-        ensures { λ r. ⌜ r ≡ timingOf (now (self .entry)) ⌝ }
+    pub fn phase(&self) -> u64
+        ensures { λ r. ⌜ r ≡ timingOf (now (self .entry)) .phase ⌝ }
     {
-        FilterTiming {
-            period: self.period,
-            phase: self.phase,
-        }
+        self.phase
     }
 
     /// One tick; whether the filter samples in it, which is each period's last.
@@ -52,9 +48,13 @@ impl FilterTiming {
         ensures answer { λ r. ⌜ r ≡ samplesIn (now (self .entry)) ⌝ }
         ensures after { λ _. ⌜ now (self .exit) ≡ ticked (now (self .entry)) ⌝ }
     {
-        let mut clock = FilterClock::from_timing(*self);
+        let Some(mut clock) = FilterClock::from_timing(*self) else {
+            // Numbers that no filter has are taken as period 1 and phase 0.
+            *self = FilterTiming::new(1);
+            return true;
+        };
         let due = clock.tick();
-        *self = clock.timing();
+        self.phase = clock.phase();
         due
     }
 }

@@ -11,17 +11,20 @@ use Rattle.table.proofs.gather.Needs as need
 pub loop-k-again : need.loop-k-again
 loop-k-again c =
     gathered-more (widthOf (c .args .share)) (shareOf (c .args .share)) (c .args .channels .now) (c .loop-k .k) _ _ _ _ _
-      (c .width-width .ensures .answer) (omega arith) (c .loop-k .inv .0) (c .share .ensures .answer)
-      (c .with-field-word .ensures .answer) (c .with-field-word .ensures .below)
+    (c .width-width .ensures .answer) (omega arith) (c .loop-k .inv .0) (c .share .ensures .answer)
+    (c .with-field-word .ensures .answer) (c .with-field-word .ensures .below)
 
 pub with-field-word-requires : need.with-field-word-requires
 with-field-word-requires c κs =
     let room = gathered-room (c .width-width .result) (c .loop-k .k) (c .width-width .ensures .most) (c .loop-k-test .taken) in
     let few = c .width-width .ensures .most in
     record {
-      room = room; width = omega arith; low = gathered-below (c .width-width .result) (c .loop-k .k) few (c .loop-k-test .taken);
+      room = room;
+      width = omega arith;
+      low = gathered-below (c .width-width .result) (c .loop-k .k) few (c .loop-k-test .taken);
       below = rw (c .width-width .ensures .answer) (c .loop-k .inv .1);
-      value = rw (c .width-width .ensures .answer) (c .share .ensures .below) }
+      value = rw (c .width-width .ensures .answer) (c .share .ensures .below);
+    }
 
 pub returns : need.returns
 unfolding gathered

@@ -19,10 +19,11 @@ returns-in-Break-write c =
     let s : registerAnswer (placeAt (c .args .offset)) (c .args .value) ≡ Err e = sym (c .write .ensures .answer) ∙ c .in-Break-write .was tt in
     let p : offsetChecked (c .args .offset) ≡ Ok tt = sym (c .check-offset .ensures) ∙ c .in-Continue-check-offset .was tt in
     let d : writeDone k (c .args .offset) (c .args .value) ≡ Err e =
-        refused-write k (c .args .offset) (c .args .value) e p (omega arith) (omega arith) s in
+    refused-write k (c .args .offset) (c .args .value) e p (omega arith) (omega arith) s in
     record {
       answer = exit-is (c .from-residual-in-Break-write .result) (c .from-residual-in-Break-write .ensures .1) ∙ ap accepted (sym d);
-      after = refused-record k (c .args .offset) (c .args .value) e _ s (c .write .ensures .after) ∙ ap (afterWrite k) (sym d) }
+      after = refused-record k (c .args .offset) (c .args .value) e _ s (c .write .ensures .after) ∙ ap (afterWrite k) (sym d);
+    }
 
 pub returns-in-Continue-write : need.returns-in-Continue-write
 unfolding writeDone
