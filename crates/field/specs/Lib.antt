@@ -1,0 +1,3 @@
+pub mod OwnSensor
+pub mod Plugging
+pub mod Wiring

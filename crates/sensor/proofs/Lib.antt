@@ -1,0 +1,4 @@
+pub mod Frames
+pub mod KindLaws
+pub mod Ranges
+pub mod Soundness
