@@ -3,6 +3,8 @@ ghost use mathlib.Core.List.{_++_};
 ghost use mathlib.Core.Path.{_≡_};
 ghost use lib.ListN.{drop, length, take};
 ghost use Rattle.rig.specs.Benches.{answersOn, bench, newBench, runOn};
+ghost use Rattle.rig_runs.specs.Laws.{CountsOnRig};
+ghost use Rattle.separate.specs.Separation.{Separate};
 use card::Card;
 use field::field::Field;
 use rig::calls::RigAnswer;
@@ -13,6 +15,8 @@ use rig::calls::make_rig_call;
 pub fn run_calls<F: Field>(field: &mut F, calls: &[RigCall], answers: &mut [RigAnswer]) -> Card
     ensures state { λ r. ⌜ bench r (F·Field .wired (now (field .exit))) ≡ runOn (newBench (F·Field .wired (now (field .entry)))) (take (length (now (answers .entry))) (now (calls .entry))) ⌝ }
     ensures answers { λ _. ⌜ now (answers .exit) ≡ answersOn (newBench (F·Field .wired (now (field .entry)))) (take (length (now (answers .entry))) (now (calls .entry))) ++ drop (length (now (calls .entry))) (now (answers .entry)) ⌝ }
+    ensures counts { λ _. ⌜ CountsOnRig ⌝ }
+    ensures separate { λ _. ⌜ Separate ⌝ }
 {
     let mut card = Card::power_on();
     let count = calls.len().min(answers.len());

@@ -1,0 +1,9 @@
+//! The channels are kept apart: what is done for others never shows in a channel's own answers.
+ghost use Rattle.separate.specs.Separation.{Separate};
+
+/// Two lists of calls on new cards that are alike for a channel give that channel the same answers at every place.
+pub fn channels_apart() -> u8
+    ensures { λ _. ⌜ Separate ⌝ }
+{
+    0
+}
