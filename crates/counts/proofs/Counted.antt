@@ -24,7 +24,7 @@ use Rattle.card.proofs.Refused.{refused-record}
 use Rattle.runs.specs.declared.Call.{Call}
 use Rattle.runs.specs.declared.Call.the-variants.{Tick, Read, Write}
 use Rattle.runs.specs.Runs.{run, step}
-use Rattle.counts.specs.Tallies.{ChannelTally, levelsOn, ownWritten, powerOnTally, settingAt, tallyOver, tallyStep, tallyWritten}
+use Rattle.counts.specs.Tallies.{ChannelTally, levelsOn, ownWritten, powerOnTally, settingAt, tallied, tallyOver, tallyStep, tallyWritten}
 use Rattle.counts.specs.Laws.{AllFit, Counts}
 use Rattle.counts.proofs.Bounds.{Small, step-bound}
 use Rattle.counts.proofs.Cards.{Showing, Shows, card-read, card-ticked, other, own, shared-written}
@@ -118,5 +118,9 @@ module _ (k : ℕ) (h : k < 8) where
   unfolding powerOn
   power-on-shows = record { full = length-replicate 8 newChannel; is = ap part (getD-replicate 8 k newChannel blank h) }
 
+-- a channel's record shows what its tally stands for
+pub tally-shown : (k : ℕ) → k < 8 → (xs : List Call) → AllFit xs → part (channelOf k (run powerOn xs)) ≡ standing (tallied k xs)
+tally-shown k h xs f = run-shows k h xs f powerOn powerOnTally (omega arith) (power-on-shows k h) .is
+
 pub counts-stand : Counts
-counts-stand k h xs f = ap (λ (p : Part). p .count .value) (run-shows k h xs f powerOn powerOnTally (omega arith) (power-on-shows k h) .is)
+counts-stand k h xs f = ap (λ (p : Part). p .count .value) (tally-shown k h xs f)

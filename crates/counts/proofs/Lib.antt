@@ -5,3 +5,4 @@ pub mod Stands
 pub mod Bounds
 pub mod Offsets
 pub mod Counted
+pub mod Shown

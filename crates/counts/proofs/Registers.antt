@@ -27,10 +27,10 @@ partCommanded v p = withCount (whenCounting (p .mode) (commanded v (p .count)) (
 -- a write at a place in the channel's span
 abbrev pub partWritten : ℕ → ℕ → Part → Part
 partWritten o v p =
-  cond (eqb o 8) (withCount (controlWritten v (p .count)) p) (
-  cond (eqb o 16) (withCount (preloaded v (p .count)) p) (
-  cond (eqb o 24) (partCommanded v p) (
-  cond (eqb o 28) (partDebounced v p) p)))
+    cond (eqb o 8) (withCount (controlWritten v (p .count)) p) (
+    cond (eqb o 16) (withCount (preloaded v (p .count)) p) (
+    cond (eqb o 24) (partCommanded v p) (
+    cond (eqb o 28) (partDebounced v p) p)))
 
 command-part : (m : Mode) (v : ℕ) (c : Channel) → part (cond (inCounterMode (withMode m c)) (commandWritten v (withMode m c)) (withMode m c)) ≡ partCommanded v (part (withMode m c))
 unfolding register.commanded

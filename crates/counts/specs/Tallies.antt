@@ -54,8 +54,11 @@ levelsOn k lines = record { a = flagOf lines (3 * k); b = flagOf lines (3 * k + 
 
 -- the filters tick in every mode; Counter Mode counts by the filtered levels before and after the tick
 abbrev pub tallyTicked : Levels → ChannelTally → ChannelTally
-tallyTicked x t = record { mode = t .mode; lines = linesTicked x (t .lines);
-  counter = inCounterMode (t .mode) (tallyTick (levelsOf (t .lines)) (levelsOf (linesTicked x (t .lines))) (t .counter)) (t .counter) }
+tallyTicked x t = record {
+  mode = t .mode;
+  lines = linesTicked x (t .lines);
+  counter = inCounterMode (t .mode) (tallyTick (levelsOf (t .lines)) (levelsOf (linesTicked x (t .lines))) (t .counter)) (t .counter);
+}
 
 -- MODE as written: the divider restarts where Counter Mode is entered
 abbrev pub tallyMode : Setting → ChannelTally → ChannelTally
@@ -76,16 +79,16 @@ registerAt k p = 16 + 40 * k + p
 -- channel k's registers: 0x08 Counter Mode Control, 0x10 Preload, 0x18 Command, 0x1C Debouncing; no other bears on the count
 abbrev pub ownWritten : ℕ → ℕ → ℕ → ChannelTally → ChannelTally
 ownWritten k o v t =
-  cond (eqb o (registerAt k 8)) (withTally (tallyControl v (t .counter)) t) (
-  cond (eqb o (registerAt k 16)) (withTally (tallyPreload v (t .counter)) t) (
-  cond (eqb o (registerAt k 24)) (withTally (inCounterMode (t .mode) (tallyCommand v (t .counter)) (t .counter)) t) (
-  cond (eqb o (registerAt k 28)) (tallyDebounced v t) t)))
+    cond (eqb o (registerAt k 8)) (withTally (tallyControl v (t .counter)) t) (
+    cond (eqb o (registerAt k 16)) (withTally (tallyPreload v (t .counter)) t) (
+    cond (eqb o (registerAt k 24)) (withTally (inCounterMode (t .mode) (tallyCommand v (t .counter)) (t .counter)) t) (
+    cond (eqb o (registerAt k 28)) (tallyDebounced v t) t)))
 
 -- a write: Global Control at 0, Global Command at 4, else channel k's own registers
 abbrev pub tallyWritten : ℕ → ℕ → ℕ → ChannelTally → ChannelTally
 tallyWritten k o v t =
-  cond (eqb o 0) (tallyMode (settingAt (fieldOf v (2 * k) 2)) t) (
-  cond (eqb o 4) (tallyLoaded (flagOf v k) t) (ownWritten k o v t))
+    cond (eqb o 0) (tallyMode (settingAt (fieldOf v (2 * k) 2)) t) (
+    cond (eqb o 4) (tallyLoaded (flagOf v k) t) (ownWritten k o v t))
 
 -- a call, as it bears on channel k
 abbrev pub tallyStep : ℕ → ChannelTally → Call → ChannelTally

@@ -1,10 +1,9 @@
 -- Lists of calls that are alike for a channel give it the same answers.
 use mathlib.Core.Path.{_≡_, refl, sym, ap, ap₂, _∙_}
-use mathlib.Core.List.{List, [], _∷_}
-use mathlib.Core.Bool.{Bool, true, false, cond}
+use mathlib.Core.List.{List, _∷_}
+use mathlib.Core.Bool.{Bool, cond}
 use Prim.Native.Nat.{ℕ, _+_, _*_, _<_}
 use native.Mathlib.Omega.{arith}
-use lib.ListN.{length}
 use Rattle.bits.specs.Words.{flagOf}
 use Rattle.counter_count.specs.declared.levels.Levels.{Levels as Lines}
 use Rattle.table.specs.Tables.{levelsAt}
@@ -14,7 +13,7 @@ use Rattle.runs.specs.declared.Answer.{Answer}
 use Rattle.runs.specs.declared.Call.{Call}
 use Rattle.runs.specs.declared.Call.the-variants.{Tick, Read, Write}
 use Rattle.runs.specs.Runs.{answerTo, answers, step}
-use Rattle.separate.specs.Separation.{Alike, AllAlike, Elsewhere, Seen, Separate, accessSeen, concerns, elsewhere, more, none, nothing, reads, seen, seenAll, ticks, writes, written}
+use Rattle.separate.specs.Separation.{Alike, AllAlike, Elsewhere, Separate, concerns, elsewhere, more, none, nothing, reads, seen, seenAll, ticks, writes, written}
 use Rattle.separate.proofs.Calls.{away, here, left-read, left-written, read-seen, same-read, same-tick, same-written, tick-seen, write-seen}
 use Rattle.separate.proofs.Same.{Same, Sound, same-self, same-sym, same-trans}
 

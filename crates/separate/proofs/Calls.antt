@@ -1,8 +1,8 @@
 -- Calls one by one: where the register of an access stands, and what the call leaves and shows of a channel.
 use mathlib.Core.Path.{_≡_, refl, sym, ap, ap₂, subst, fun-ext, _∙_}
 use mathlib.Core.List.{List}
-use mathlib.Core.Bool.{Bool, true, false, cond, not, _&&_, _||_}
-use Prim.Native.Nat.{ℕ, _+_, _-_, _*_, _/_, _%_, _<_, _≤_}
+use mathlib.Core.Bool.{Bool, true, false, cond, _&&_, _||_}
+use Prim.Native.Nat.{ℕ, _-_, _<_, _≤_}
 use native.Mathlib.Nat.{zero-add}
 use native.Mathlib.Omega.{arith}
 use lib.Dec.{eqb, leb, ltb}
@@ -25,14 +25,14 @@ use Rattle.table.proofs.Loops.{getD-changed, length-changed}
 use Rattle.card.specs.declared.Card.{Card}
 use Rattle.card.specs.declared.shared.Shared.{Shared}
 use Rattle.card.specs.Calls.{Got, accepted, afterRead, afterWrite, channelsTicked, given, readDone, tickDone, tickLevels, valueOf, writeDone}
-use Rattle.card.specs.Records.{blank, channelOf, withChannel, withShared}
+use Rattle.card.specs.Records.{blank, channelOf, withChannel}
 use Rattle.card.specs.Registers.{channelAt, edgesRead, inChannels, inSnapshots, interruptsRead, offsetChecked, placeAt, registerRead, registerSet, registerValue, settingChecked, snapshotAt}
 use Rattle.card.specs.Shared.{expiry, sharedTicked}
 use Rattle.card.specs.SharedRegisters.{sharedWritten}
-use Rattle.card.specs.Words.{levelsNow, registerWord}
-use Rattle.separate.specs.Separation.{SameFor, Seen, bits, bitsSeen, concerns, levels, namedForOthers, nothing, nowhere, refused, tellsOfAll, wordSeen, written}
+use Rattle.card.specs.Words.{registerWord}
+use Rattle.separate.specs.Separation.{SameFor, bits, bitsSeen, concerns, levels, namedForOthers, nowhere, tellsOfAll, wordSeen}
 use Rattle.separate.proofs.Words.{word-same}
-use Rattle.separate.proofs.Same.{Same, Sound, same-acts, same-as, same-cond, same-if, same-other, same-own, same-self, same-shared, same-table, sharedFor}
+use Rattle.separate.proofs.Same.{Same, Sound, same-acts, same-as, same-cond, same-if, same-other, same-own, same-self, same-shared, same-table}
 use Rattle.separate.proofs.Shown.{clocks-same, outputs-same, register-same}
 use Rattle.separate.proofs.Writes.{clears-same, same-acknowledged, same-triggered, same-write}
 

@@ -5,3 +5,4 @@ mod Writes
 mod Shown
 mod Calls
 pub mod Apart
+mod Witness

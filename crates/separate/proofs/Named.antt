@@ -1,8 +1,7 @@
 -- Which bits are named for others: a channel's own fields are not, and neither is what lies outside the fields.
-use mathlib.Core.Path.{_≡_, refl, sym, ap, _∙_}
-use mathlib.Core.Bool.{Bool, true, false, cond, not, _&&_, _||_}
+use mathlib.Core.Path.{_≡_}
+use mathlib.Core.Bool.{false, not}
 use Prim.Native.Nat.{ℕ, _+_, _-_, _*_, _/_, _<_, _≤_}
-use native.Mathlib.Omega.{arith}
 use lib.Dec.{eqb, leb, ltb}
 use Rattle.std.proofs.shelf.Tests.{and-left, and-right, eq-eqb, eqb-true, le-leb, le-ltb, lt-leb, lt-ltb, not-false, not-from-true}
 use Rattle.separate.specs.Separation.{othersIn}

@@ -1,13 +1,12 @@
 -- Shared registers as they read: cards that are the same for a channel show it the same bits.
 use mathlib.Core.Path.{_≡_, refl, sym, ap, ap₂, subst, _∙_}
 use mathlib.Core.List.{List}
-use mathlib.Core.Bool.{Bool, true, false, cond, not, _&&_, _||_}
+use mathlib.Core.Bool.{Bool, true, false, cond, _&&_, _||_}
 use mathlib.Core.Logic.{⊎-elim}
 use Prim.Native.Nat.{ℕ, zero, suc, _+_, _-_, _*_, _/_, _%_, _^_, _<_, _≤_}
 use native.Mathlib.Nat.{mul-comm}
 use native.Mathlib.Omega.{arith}
-use lib.Bits.{bitAnd}
-use lib.Dec.{eqb, leb, ltb}
+use lib.Dec.{eqb, ltb}
 use lib.ListN.{length, getD}
 use Rattle.std.proofs.shelf.Bits.{div-add-mod', mod-below}
 use Rattle.std.proofs.shelf.Tests.{and-left, cases-lt, eqb-false, eqb-true, ltb-false, or-parts}
@@ -32,14 +31,14 @@ use Rattle.card.specs.declared.Card.{Card}
 use Rattle.card.specs.declared.shared.Shared.{Shared}
 use Rattle.card.specs.declared.snapshots.SnapshotStatus.{SnapshotStatus}
 use Rattle.card.specs.declared.snapshots.SnapshotStatus.the-variants.{Idle, Collecting, Unread, Overflow}
-use Rattle.card.specs.Records.{blank, channelOf}
+use Rattle.card.specs.Records.{blank}
 use Rattle.card.specs.Shared.{enablesWord, outputMask}
 use Rattle.card.specs.Snapshots.{statusOf, statusWord}
 use Rattle.card.specs.Words.{anyEdge, controlWord, debounceWord, drivenOutputs, interruptEnables, interruptStatus, levelsNow, pairOf, registerWord, testWord}
 use Rattle.separate.specs.Separation.{namedForOthers, othersIn, tellsOfAll}
 use Rattle.separate.proofs.Words.{flag-above, flag-and, flag-high, flag-low, word-below, word-bit}
 use Rattle.separate.proofs.Named.{in-own, own-bit}
-use Rattle.separate.proofs.Same.{Same, sharedFor}
+use Rattle.separate.proofs.Same.{Same}
 
 -- a channel's share fits its bits
 bit-below : (b : Bool) → bitAt 0 b < 2

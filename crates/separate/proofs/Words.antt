@@ -1,15 +1,14 @@
 -- Bits of words: words that agree in their bits, sums of fields, fields gathered from a table.
-use mathlib.Core.Path.{_≡_, refl, sym, ap, ap₂, subst, _∙_}
+use mathlib.Core.Path.{_≡_, refl, sym, ap, ap₂, _∙_}
 use mathlib.Core.List.{List, [], _∷_}
-use mathlib.Core.Bool.{Bool, true, false, cond, _&&_}
+use mathlib.Core.Bool.{false, _&&_}
 use Prim.Native.Nat.{ℕ, zero, suc, _+_, _-_, _*_, _/_, _%_, _^_, _<_, _≤_}
 use native.Mathlib.Nat.{add-comm, mul-comm, mul-suc, mul-zero, mod-eq-of-lt, pow-suc, zero-div}
 use native.Mathlib.Omega.{arith}
 use lib.Bits.{bitAnd}
-use lib.Dec.{eqb, ltb}
+use lib.Dec.{eqb}
 use lib.ListN.{length, getD}
 use Rattle.std.proofs.shelf.Bits.{and-mod, and-shr, field-of, mod-low, mod-pow-add, mul-add-lt, pow-add, shr-high, shr-shr}
-use Rattle.std.proofs.shelf.Tests.{eqb-true, eqb-false}
 use Rattle.bits.specs.Words.{fieldOf, flagOf}
 use Rattle.table.specs.Tables.{wordOf}
 

@@ -1,20 +1,18 @@
 -- Writes of shared registers: cards that are the same for a channel stay so where the words agree in its bits.
-use mathlib.Core.Path.{_≡_, refl, sym, ap, ap₂, subst, _∙_}
-use mathlib.Core.Bool.{Bool, true, false, cond, not, _&&_, _||_}
-use Prim.Native.Nat.{ℕ, _+_, _-_, _*_, _/_, _%_, _^_, _<_, _≤_}
+use mathlib.Core.Path.{_≡_, refl, ap, ap₂, subst, _∙_}
+use mathlib.Core.Bool.{Bool, true, false, cond, not, _||_}
+use Prim.Native.Nat.{ℕ, _+_, _-_, _*_, _<_}
 use native.Mathlib.Omega.{arith}
-use lib.Dec.{eqb, leb, ltb}
-use Rattle.std.proofs.shelf.Tests.{eqb-true, ltb-false, ne-eqb, or-from}
+use lib.Dec.{eqb, ltb}
+use Rattle.std.proofs.shelf.Tests.{eqb-true, or-from}
 use Rattle.bits.specs.Words.{fieldOf, flagOf}
 use Rattle.filter.specs.declared.debounce.Debounce.{Debounce}
-use Rattle.filter.specs.declared.debounce.TimeBase.{TimeBase}
 use Rattle.filter.specs.declared.debounce.TimeBase.the-variants.{Ns30, Ns100, Us1, Ms1}
 use Rattle.filter.specs.Debounces.{debounceOf, periodOf}
 use Rattle.parts.specs.Inputs.{debouncedBy}
 use Rattle.parts.specs.Interrupts.{acknowledged, enabledTo}
 use Rattle.timer.specs.declared.Timer.{Timer}
 use Rattle.timer.specs.Timers.{controlWritten as timerWritten, preloadWritten as timerPreloaded}
-use Rattle.channel.specs.declared.act.Act.{Act}
 use Rattle.channel.specs.declared.act.Act.the-variants.{AcknowledgeEdges, AcknowledgeInterrupts, ClearSnapshot, Control, DebounceInput, EnableEdges, EnableInterrupts, Load, Output, Snapshot, TestOutput}
 use Rattle.channel.specs.declared.channel.Channel.{Channel}
 use Rattle.channel.specs.Records.{withInput, withOutputs}
@@ -23,12 +21,12 @@ use Rattle.card.specs.declared.Card.{Card}
 use Rattle.card.specs.declared.shared.Shared.{Shared}
 use Rattle.card.specs.Records.{withShared, withTable}
 use Rattle.card.specs.Shared.{controlSet, debounceSet, interruptsSet, outputsEnabled, timerAcknowledged, withOverflow, withScratchpad, withTimer}
-use Rattle.card.specs.SharedRegisters.{acknowledgedAll, controlWritten, inputsDebounced, interruptsEnabled as enablesWritten, onAll, sharedWritten, unlessCleared}
-use Rattle.card.specs.Snapshots.{commanded, snapshotsCleared, statusOf, statusWord, triggered, triggeredIf}
+use Rattle.card.specs.SharedRegisters.{acknowledgedAll, controlWritten, inputsDebounced, interruptsEnabled as enablesWritten, onAll, sharedWritten}
+use Rattle.card.specs.Snapshots.{commanded, snapshotsCleared, statusOf, statusWord, triggered}
 use Rattle.separate.specs.Separation.{SameFor, namedForOthers, othersIn}
 use Rattle.separate.proofs.Words.{field-same, word-same}
 use Rattle.separate.proofs.Named.{above-fields, below-fields, own-bit}
-use Rattle.separate.proofs.Same.{Same, Sound, same-acts, same-as, same-cond, same-if, same-shared, sharedFor}
+use Rattle.separate.proofs.Same.{Same, same-acts, same-cond, same-if, same-shared, sharedFor}
 
 -- a trigger: the overflow is not the channel's
 pub same-triggered : {k : ℕ} {c d : Card} → k < 8 → Same k c d → Same k (triggered c) (triggered d)

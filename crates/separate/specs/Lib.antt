@@ -1,1 +1,2 @@
 pub mod Separation
+pub mod Example
