@@ -1,27 +1,23 @@
 -- What the law of counts speaks of in a channel's record, and what each act of the card makes of it.
 use mathlib.Core.Bool.{Bool, true, false, cond}
-use mathlib.Core.Path.{_≡_, refl, sym, ap, subst, _∙_}
-use Prim.Native.Nat.{ℕ, _+_, _*_}
+use mathlib.Core.Path.{_≡_, refl, ap, _∙_}
+use Prim.Native.Nat.{ℕ, _*_}
 use lib.Dec.{eqb}
-use Rattle.std.proofs.shelf.Tests.{eqb-true}
 use Rattle.std.specs.declared.option.Option.{Option}
 use Rattle.std.specs.declared.option.Option.the-variants.{Some, None}
 use Rattle.bits.specs.Words.{fieldOf, flagOf}
-use Rattle.filter.specs.Debounces.{debounceOf, periodOf}
 use Rattle.counter_count.specs.declared.levels.Levels.{Levels}
 use Rattle.counter_count.specs.declared.count.Count.{Count}
-use Rattle.counter_count.specs.Counts.{commanded, controlWritten, preloaded, preloadLoaded, restarted}
+use Rattle.counter_count.specs.Counts.{preloadLoaded, restarted}
 use Rattle.counter_count.specs.Ticks.{countTicked}
 use Rattle.counter.specs.Counters.{ticked}
 use Rattle.counter.specs.Registers as register
 use Rattle.controller.specs.declared.control.Start.{Start}
 use Rattle.controller.specs.declared.control.Start.the-variants.{Request, Timer}
-use Rattle.controller.specs.declared.phase.Phase.{Phase}
 use Rattle.controller.specs.declared.phase.Phase.the-variants.{Waiting}
 use Rattle.controller.specs.declared.registers.Completed.{Completed}
-use Rattle.controller.specs.Phase.{busyIn, phaseTicked}
+use Rattle.controller.specs.Phase.{busyIn}
 use Rattle.controller.specs.Registers.{completion}
-use Rattle.parts.specs.Snapshots.{completed}
 use Rattle.channel.specs.declared.act.Act.{Act}
 use Rattle.channel.specs.declared.act.Act.the-variants.{Control, Load, ClearSnapshot, Snapshot, DebounceInput, Output, EnableInterrupts, AcknowledgeInterrupts, EnableEdges, AcknowledgeEdges, TestOutput}
 use Rattle.channel.specs.declared.lines.Lines.{Lines}
@@ -30,14 +26,13 @@ use Rattle.channel.specs.declared.mode.Mode.the-variants.{Off, Counter as Count
 use Rattle.channel.specs.declared.mode.OffCode.{OffCode}
 use Rattle.channel.specs.declared.mode.OffCode.the-variants.{Zeros, Ones}
 use Rattle.channel.specs.declared.channel.Channel.{Channel}
-use Rattle.channel.specs.Lines.{levelsOf, linesRestarted, linesTicked}
-use Rattle.channel.specs.Records.{withMode, withSnapshot}
+use Rattle.channel.specs.Lines.{levelsOf, linesTicked}
+use Rattle.channel.specs.Records.{withMode}
 use Rattle.channel.specs.Modes.{becameCounter, becameOff, becameSsi, departed, modeWritten}
 use Rattle.channel.specs.Shares.{loadedBy, performed}
-use Rattle.channel.specs.Snapshots.{collectedOrLatched, snapped, ssiSnappedAs, triggered}
+use Rattle.channel.specs.Snapshots.{snapped, ssiSnappedAs}
 use Rattle.channel.specs.Ticks.{channelTicked, finished, observed, requested, timerRequested, timerRequestedAs, transmitted, waitsAt, worked}
-use Rattle.channel.specs.Registers.{registerTaken, registerWritten}
-use Rattle.counts.specs.Tallies.{Setting, off, counting, reading, enters, inCounterMode, isCounting, settingAt}
+use Rattle.counts.specs.Tallies.{Setting, off, counting, reading, enters, inCounterMode, settingAt}
 
 -- the filters of the lines, the mode without the controller's phase, and the count
 pub record Part : Type 0 where

@@ -7,7 +7,6 @@ use Rattle.std.proofs.shelf.Tests.{eqb-true}
 use Rattle.filter.specs.Debounces.{debounceOf, periodOf}
 use Rattle.counter_count.specs.Counts.{commanded, controlWritten, preloaded}
 use Rattle.counter.specs.Registers as register
-use Rattle.controller.specs.declared.control.Start.{Start}
 use Rattle.channel.specs.declared.mode.Mode.{Mode}
 use Rattle.channel.specs.declared.mode.Mode.the-variants.{Off, Counter as Counting, Ssi as Reading}
 use Rattle.channel.specs.declared.channel.Channel.{Channel}

@@ -1,12 +1,11 @@
 -- What a read of a channel's Data Register answers in Counter Mode.
-use mathlib.Core.Bool.{Bool, true, false, cond, not, _&&_, _||_}
-use mathlib.Core.Path.{_≡_, refl, sym, ap, _∙_}
-use Prim.Native.Nat.{ℕ, _+_, _*_, _/_, _-_, _%_, _<_}
+use mathlib.Core.Bool.{true, false}
+use mathlib.Core.Path.{_≡_, refl, ap, _∙_}
+use Prim.Native.Nat.{ℕ, _%_, _<_}
 use native.Mathlib.Omega.{arith}
 use lib.Dec.{eqb, leb, ltb}
 use Rattle.std.proofs.shelf.Tests.{cond-false, eq-eqb, le-leb, le-ltb, lt-ltb}
-use Rattle.std.specs.declared.result.Result.{Result}
-use Rattle.std.specs.declared.result.Result.the-variants.{Ok, Err}
+use Rattle.std.specs.declared.result.Result.the-variants.{Ok}
 use Rattle.counter.specs.Counters.{latches}
 use Rattle.counter.specs.Registers.{dataWord}
 use Rattle.channel.specs.declared.mode.Mode.{Mode}
@@ -16,10 +15,10 @@ use Rattle.channel.specs.Records.{withMode}
 use Rattle.channel.specs.Registers.{registerShown}
 use Rattle.card.specs.Calls.{Card, powerOn, readDone, valueOf}
 use Rattle.card.specs.Records.{channelOf}
-use Rattle.card.specs.Registers.{channelAt, inChannels, offsetChecked, placeAt}
+use Rattle.card.specs.Registers.{channelAt, placeAt}
 use Rattle.runs.specs.declared.Answer.the-variants.{Value}
 use Rattle.runs.specs.Runs.{run}
-use Rattle.counts.specs.Tallies.{counting, registerAt, tallied}
+use Rattle.counts.specs.Tallies.{counting, registerAt}
 use Rattle.counts.specs.Laws.{CountsRead}
 use Rattle.counts.proofs.Counted.{counts-stand, tally-shown}
 use Rattle.counts.proofs.Parts.{Part, settingOf}

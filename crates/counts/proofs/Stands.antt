@@ -1,12 +1,12 @@
 -- A channel's tally stands for the part of its record that the law of counts speaks of.
 use mathlib.Core.Bool.{Bool, true, false, cond}
-use mathlib.Core.Path.{_≡_, refl, sym, ap, _∙_}
+use mathlib.Core.Path.{_≡_, refl, ap}
 use Prim.Native.Nat.{ℕ, _<_, _^_}
 use Rattle.counter_count.specs.declared.levels.Levels.{Levels}
 use Rattle.counter_count.specs.declared.count.Count.{Count}
 use Rattle.counter_count.specs.Counts.{controlWritten}
 use Rattle.channel.specs.Lines.{levelsOf, linesTicked}
-use Rattle.tally.specs.Tally.{Tally, stands, tallyCommand, tallyControl, tallyEnter, tallyLoad, tallyTick}
+use Rattle.tally.specs.Tally.{Tally, stands, tallyCommand, tallyControl, tallyLoad, tallyTick}
 use Rattle.tally.proofs.Stands.{tally-stands}
 use Rattle.counts.specs.Tallies.{ChannelTally, Setting, off, counting, reading, enters, inCounterMode, tallyLoaded, tallyMode, tallyTicked, withTally}
 use Rattle.counts.proofs.Parts.{Part, partLoaded, partMode, partTicked, withCount}

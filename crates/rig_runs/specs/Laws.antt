@@ -35,4 +35,4 @@ AllFitOn (x ∷ xs) = FitsOn x × AllFitOn xs
 abbrev pub CountsOnRig : Type 0
 CountsOnRig = (m : FieldModel) (k : ℕ) → k < 8 → (xs : List RigCall) → AllFitOn xs
     → channelOf k (runOn (newBench m) xs .card) .counter .count .value
-      ≡ modulo (pos (loadOver k (cardCalls (newBench m) xs)) +ℤ sumOver k (cardCalls (newBench m) xs))
+    ≡ modulo (pos (loadOver k (cardCalls (newBench m) xs)) +ℤ sumOver k (cardCalls (newBench m) xs))

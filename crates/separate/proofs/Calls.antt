@@ -54,12 +54,12 @@ same-channels : {k : ℕ} {c d : Card} (l m i j : ℕ) → k < 8 → levelsAt l 
 same-channels {k} {c} {d} l m i j h p q s =
     let e : expiry (c .shared) ≡ expiry (d .shared) = expiry-same s in
     same-table (tableTicked l i (expiry (c .shared)) (c .channels)) (tableTicked m j (expiry (d .shared)) (d .channels))
-        (length-ticked l i (expiry (c .shared)) (c .channels) ∙ s .left .eight) (length-ticked m j (expiry (d .shared)) (d .channels) ∙ s .right .eight)
-        (ticked-at l i k (expiry (c .shared)) (c .channels) h (s .left .eight)
-            ∙ ap₂ (λ (x : Lines) (y : Bool). channelTicked x y (expiry (c .shared)) (channelOf k c)) p q
-            ∙ ap₂ (λ (x : Bool) (y : Channel). channelTicked (levelsAt m k) (flagOf j k) x y) e (s .channel)
-            ∙ sym (ticked-at m j k (expiry (d .shared)) (d .channels) h (s .right .eight)))
-        (same-shared (sharedTicked (c .shared)) (sharedTicked (d .shared)) (s .left .time) (s .right .time) (ap sharedTicked (s .shared)) s)
+    (length-ticked l i (expiry (c .shared)) (c .channels) ∙ s .left .eight) (length-ticked m j (expiry (d .shared)) (d .channels) ∙ s .right .eight)
+    (ticked-at l i k (expiry (c .shared)) (c .channels) h (s .left .eight)
+    ∙ ap₂ (λ (x : Lines) (y : Bool). channelTicked x y (expiry (c .shared)) (channelOf k c)) p q
+    ∙ ap₂ (λ (x : Bool) (y : Channel). channelTicked (levelsAt m k) (flagOf j k) x y) e (s .channel)
+    ∙ sym (ticked-at m j k (expiry (d .shared)) (d .channels) h (s .right .eight)))
+    (same-shared (sharedTicked (c .shared)) (sharedTicked (d .shared)) (s .left .time) (s .right .time) (ap sharedTicked (s .shared)) s)
 
 pub same-tick : {k : ℕ} {c d : Card} (l m i j : ℕ) → k < 8 → levelsAt l k ≡ levelsAt m k → flagOf i k ≡ flagOf j k
     → Same k c d → Same k (tickDone l i c) (tickDone m j d)
@@ -67,7 +67,7 @@ unfolding tickDone
 same-tick {k} {c} {d} l m i j h p q s =
     let t : Same k (channelsTicked l i c) (channelsTicked m j d) = same-channels l m i j h p q s in
     same-cond (expiry (c .shared) && c .shared .«timer_triggers») (expiry (d .shared) && d .shared .«timer_triggers»)
-        (ap₂ _&&_ (expiry-same s) (ap (λ (x : Shared). x .«timer_triggers») (s .shared))) (same-triggered h t) t
+    (ap₂ _&&_ (expiry-same s) (ap (λ (x : Shared). x .«timer_triggers») (s .shared))) (same-triggered h t) t
 
 pub tick-seen : {k : ℕ} {c d : Card} (l m i j : ℕ) → k < 8 → levelsAt l k ≡ levelsAt m k → flagOf i k ≡ flagOf j k → Same k c d
     → levels (flagOf (tickLevels l i c .clocks) k) (flagOf (tickLevels l i c .outputs) k) ≡ levels (flagOf (tickLevels m j d .clocks) k) (flagOf (tickLevels m j d .outputs) k)
@@ -129,14 +129,14 @@ own-taken {k} {c} {d} j e s = ap (λ i. channelOf i c) e ∙ s .channel ∙ sym 
 same-registerRead : {k : ℕ} {c d : Card} (o : ℕ) → k < 8 → Here k o → Same k c d → Same k (registerRead o c) (registerRead o d)
 same-registerRead {k} {c} {d} o h (own e p) s = same-as (registerRead o c) (registerRead o d) (read-own o c e) (read-own o d e)
     (same-own (channelAt o) (registerTaken (placeAt o) (channelOf (channelAt o) c)) (registerTaken (placeAt o) (channelOf (channelAt o) d)) h p
-        (ap (registerTaken (placeAt o)) (own-taken (channelAt o) p s)) s)
+    (ap (registerTaken (placeAt o)) (own-taken (channelAt o) p s)) s)
 same-registerRead {k} {c} {d} o h (snapshot e m p) s = same-as (registerRead o c) (registerRead o d) (read-snapshot o c e m) (read-snapshot o d e m)
     (same-own (snapshotAt o) (snapshotRead (snapshotAt o) c) (snapshotRead (snapshotAt o) d) h p
-        (ap (λ (x : Channel). withSnapshot (afterReading (x .snapshot)) x) (own-taken (snapshotAt o) p s)) s)
+    (ap (λ (x : Channel). withSnapshot (afterReading (x .snapshot)) x) (own-taken (snapshotAt o) p s)) s)
 same-registerRead {k} {c} {d} o h (shared e m) s = same-as (registerRead o c) (registerRead o d) (read-shared o c e m) (read-shared o d e m)
     (same-if (eqb o 392) (λ t. same-cond (c .shared .«clear_on_read») (d .shared .«clear_on_read») (clears-same s) (same-acknowledged 4294967295 4294967295 h (λ b n. refl) s) s) (
     same-if (eqb o 396) (λ t. same-cond (c .shared .«clear_on_read») (d .shared .«clear_on_read») (clears-same s)
-        (same-acts (AcknowledgeEdges 4294967295) (AcknowledgeEdges 4294967295) h (λ x. refl) s) s) s))
+    (same-acts (AcknowledgeEdges 4294967295) (AcknowledgeEdges 4294967295) h (λ x. refl) s) s) s))
 
 left-registerRead : {k : ℕ} (c : Card) (o : ℕ) → Sound c → Away k o → nowhere o ≡ false → Same k (registerRead o c) c
 left-registerRead c o s (nothing-there e) n = let z : _≡_ {A = ℕ} 0 1 = cc in absurd (omega arith)
@@ -209,10 +209,22 @@ write-shared o v c e = rw e refl
 write-snapshot : (o v : ℕ) (c : Card) → inChannels o ≡ false → inSnapshots o ≡ true → registerSet o v c ≡ c
 write-snapshot o v c e m =
     let p = above-status o m in
-    rw (e, ne-eqb o 0 (λ q. omega arith), ne-eqb o 4 (λ q. omega arith), ne-eqb o 340 (λ q. omega arith), ne-eqb o 352 (λ q. omega arith),
-        ne-eqb o 356 (λ q. omega arith), ne-eqb o 368 (λ q. omega arith), ne-eqb o 372 (λ q. omega arith), ne-eqb o 384 (λ q. omega arith),
-        ne-eqb o 388 (λ q. omega arith), ne-eqb o 392 (λ q. omega arith), ne-eqb o 396 (λ q. omega arith), ne-eqb o 496 (λ q. omega arith),
-        ne-eqb o 504 (λ q. omega arith)) refl
+    rw (
+      e,
+      ne-eqb o 0 (λ q. omega arith),
+      ne-eqb o 4 (λ q. omega arith),
+      ne-eqb o 340 (λ q. omega arith),
+      ne-eqb o 352 (λ q. omega arith),
+      ne-eqb o 356 (λ q. omega arith),
+      ne-eqb o 368 (λ q. omega arith),
+      ne-eqb o 372 (λ q. omega arith),
+      ne-eqb o 384 (λ q. omega arith),
+      ne-eqb o 388 (λ q. omega arith),
+      ne-eqb o 392 (λ q. omega arith),
+      ne-eqb o 396 (λ q. omega arith),
+      ne-eqb o 496 (λ q. omega arith),
+      ne-eqb o 504 (λ q. omega arith),
+    ) refl
 
 -- where no bit is named for others, the words are equal
 quiet-span : (k o b : ℕ) → inChannels o ≡ true → namedForOthers k o b ≡ false
@@ -220,14 +232,25 @@ quiet-span k o b e =
     let p = and-parts (leb 16 o) (ltb o 336) e in
     let l : 16 ≤ o = leb-true 16 o (p .0) in
     let m : o < 336 = ltb-true o 336 (p .1) in
-    rw (ne-eqb o 0 (λ q. omega arith), ne-eqb o 4 (λ q. omega arith), ne-eqb o 336 (λ q. omega arith), ne-eqb o 340 (λ q. omega arith),
-        ne-eqb o 352 (λ q. omega arith), ne-eqb o 356 (λ q. omega arith), ne-eqb o 360 (λ q. omega arith), ne-eqb o 384 (λ q. omega arith),
-        ne-eqb o 388 (λ q. omega arith), ne-eqb o 392 (λ q. omega arith), ne-eqb o 396 (λ q. omega arith), ne-eqb o 496 (λ q. omega arith)) refl
+    rw (
+      ne-eqb o 0 (λ q. omega arith),
+      ne-eqb o 4 (λ q. omega arith),
+      ne-eqb o 336 (λ q. omega arith),
+      ne-eqb o 340 (λ q. omega arith),
+      ne-eqb o 352 (λ q. omega arith),
+      ne-eqb o 356 (λ q. omega arith),
+      ne-eqb o 360 (λ q. omega arith),
+      ne-eqb o 384 (λ q. omega arith),
+      ne-eqb o 388 (λ q. omega arith),
+      ne-eqb o 392 (λ q. omega arith),
+      ne-eqb o 396 (λ q. omega arith),
+      ne-eqb o 496 (λ q. omega arith),
+    ) refl
 
 same-registerSet : {k : ℕ} {c d : Card} (o v w : ℕ) → k < 8 → Here k o → SameFor k o v w → Same k c d → Same k (registerSet o v c) (registerSet o w d)
 same-registerSet {k} {c} {d} o v w h (own e p) f s = same-as (registerSet o v c) (registerSet o w d) (write-own o v c e) (write-own o w d e)
     (same-own (channelAt o) (registerWritten (placeAt o) v (channelOf (channelAt o) c)) (registerWritten (placeAt o) w (channelOf (channelAt o) d)) h p
-        (ap₂ (λ (u : ℕ) (x : Channel). registerWritten (placeAt o) u x) (word-same v w (λ b. f b (quiet-span k o b e))) (own-taken (channelAt o) p s)) s)
+    (ap₂ (λ (u : ℕ) (x : Channel). registerWritten (placeAt o) u x) (word-same v w (λ b. f b (quiet-span k o b e))) (own-taken (channelAt o) p s)) s)
 same-registerSet {k} {c} {d} o v w h (snapshot e m p) f s = same-as (registerSet o v c) (registerSet o w d) (write-snapshot o v c e m) (write-snapshot o w d e m) s
 same-registerSet {k} {c} {d} o v w h (shared e m) f s = same-as (registerSet o v c) (registerSet o w d) (write-shared o v c e) (write-shared o w d e) (same-write o v w h f s)
 

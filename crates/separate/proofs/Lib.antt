@@ -5,4 +5,4 @@ mod Writes
 mod Shown
 mod Calls
 pub mod Apart
-mod Witness
+pub mod Witness

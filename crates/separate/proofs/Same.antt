@@ -20,9 +20,18 @@ use Rattle.card.specs.SharedRegisters.{onAll}
 
 -- the shared part as channel k has it: without the overflow, and without the other half's output enable
 abbrev pub sharedFor : ℕ → Shared → Shared
-sharedFor k s = record { «test_enabled» = s .«test_enabled»; «timer_triggers» = s .«timer_triggers»; overflow = false;
-  «input_debounce» = s .«input_debounce»; «low_outputs» = cond (ltb k 4) (s .«low_outputs») false; «high_outputs» = cond (ltb k 4) false (s .«high_outputs»);
-  timer = s .timer; «timer_interrupt» = s .«timer_interrupt»; «clear_on_read» = s .«clear_on_read»; scratchpad = s .scratchpad }
+sharedFor k s = record {
+  «test_enabled» = s .«test_enabled»;
+  «timer_triggers» = s .«timer_triggers»;
+  overflow = false;
+  «input_debounce» = s .«input_debounce»;
+  «low_outputs» = cond (ltb k 4) (s .«low_outputs») false;
+  «high_outputs» = cond (ltb k 4) false (s .«high_outputs»);
+  timer = s .timer;
+  «timer_interrupt» = s .«timer_interrupt»;
+  «clear_on_read» = s .«clear_on_read»;
+  scratchpad = s .scratchpad;
+}
 
 -- what every card keeps: eight records, and a debouncing time of 16 bits
 pub record Sound (c : Card) : Type 0 where
@@ -63,12 +72,20 @@ same-cond false false p s t = t
 pub same-table : {k : ℕ} {c d : Card} (cs ds : List Channel) → length cs ≡ 8 → length ds ≡ 8 → getD cs k blank ≡ getD ds k blank
     → Same k c d → Same k (withTable cs c) (withTable ds d)
 same-table cs ds p q e s = record {
-  left = record { eight = p; time = s .left .time }; right = record { eight = q; time = s .right .time }; channel = e; shared = s .shared }
+  left = record { eight = p; time = s .left .time };
+  right = record { eight = q; time = s .right .time };
+  channel = e;
+  shared = s .shared;
+}
 
 pub same-shared : {k : ℕ} {c d : Card} (s t : Shared) → s .«input_debounce» .time < 65536 → t .«input_debounce» .time < 65536
     → sharedFor k s ≡ sharedFor k t → Same k c d → Same k (withShared s c) (withShared t d)
 same-shared s t p q e u = record {
-  left = record { eight = u .left .eight; time = p }; right = record { eight = u .right .eight; time = q }; channel = u .channel; shared = e }
+  left = record { eight = u .left .eight; time = p };
+  right = record { eight = u .right .eight; time = q };
+  channel = u .channel;
+  shared = e;
+}
 
 -- every record acts
 acted-at : (a : Act) (cs : List Channel) (k : ℕ) → k < 8 → length cs ≡ 8 → getD (acted a cs) k blank ≡ performed a k (getD cs k blank)

@@ -101,9 +101,9 @@ join-bit : (x x′ n b : ℕ) (u u′ : Bool) → x < 2 ^ n → x′ < 2 ^ n →
 join-bit x x′ n b u u′ p q low here =
     ap (λ t. flagOf (x + t) b) (bit-up n u)
     ∙ join x x′ (bitAt 0 u) (bitAt 0 u′) n b p q low (λ l. ⊎-elim
-        (λ (m : b - n < 1). ap (λ t. flagOf (bitAt 0 t) (b - n)) (here (omega arith)))
-        (λ (m : 1 ≤ b - n). flag-above (bitAt 0 u) 1 (b - n) (bit-below u) m ∙ sym (flag-above (bitAt 0 u′) 1 (b - n) (bit-below u′) m))
-        (cases-lt (b - n) 1))
+    (λ (m : b - n < 1). ap (λ t. flagOf (bitAt 0 t) (b - n)) (here (omega arith)))
+    (λ (m : 1 ≤ b - n). flag-above (bitAt 0 u) 1 (b - n) (bit-below u) m ∙ sym (flag-above (bitAt 0 u′) 1 (b - n) (bit-below u′) m))
+    (cases-lt (b - n) 1))
     ∙ sym (ap (λ t. flagOf (x′ + t) b) (bit-up n u′))
 
 bit-at-most : (n : ℕ) (u : Bool) → bitAt n u ≤ 2 ^ n
@@ -121,9 +121,9 @@ own-field : {k : ℕ} {c d : Card} (s : Share) (f b : ℕ) → k < 8 → Same k 
 own-field {k} {c} {d} s f b h u e l m =
     let q : (b - f) / widthOf s ≡ k = in-own k f (widthOf s) b e l m in
     let place : widthOf s * k + (b - f) % widthOf s ≡ b - f
-            = ap (λ t. t + (b - f) % widthOf s) (mul-comm (widthOf s) k ∙ ap (λ t. t * widthOf s) (sym q)) ∙ div-add-mod' (b - f) (widthOf s) in
+    = ap (λ t. t + (b - f) % widthOf s) (mul-comm (widthOf s) k ∙ ap (λ t. t * widthOf s) (sym q)) ∙ div-add-mod' (b - f) (widthOf s) in
     subst (λ t. flagOf (gathered s (c .channels)) t ≡ flagOf (gathered s (d .channels)) t) place
-        (gathered-same s ((b - f) % widthOf s) h u (mod-below (b - f) (widthOf s) (width-pos s)))
+    (gathered-same s ((b - f) % widthOf s) h u (mod-below (b - f) (widthOf s) (width-pos s)))
 
 -- a bit for each channel in a byte from bit f up
 own-bit-in : {k : ℕ} {c d : Card} (x : Bit) (f b : ℕ) → k < 8 → Same k c d → othersIn k f 1 b ≡ false → f ≤ b
@@ -131,7 +131,7 @@ own-bit-in : {k : ℕ} {c d : Card} (x : Bit) (f b : ℕ) → k < 8 → Same k c
 own-bit-in {k} {c} {d} x f b h u e l = ⊎-elim
     (λ (m : b < f + 8). own-field (Single x) f b h u e l (omega arith))
     (λ (m : f + 8 ≤ b). flag-above (gathered (Single x) (c .channels)) 8 (b - f) (gathered-below (Single x) (c .channels) (u .left .eight)) (omega arith)
-        ∙ sym (flag-above (gathered (Single x) (d .channels)) 8 (b - f) (gathered-below (Single x) (d .channels) (u .right .eight)) (omega arith)))
+    ∙ sym (flag-above (gathered (Single x) (d .channels)) 8 (b - f) (gathered-below (Single x) (d .channels) (u .right .eight)) (omega arith)))
     (cases-lt b (f + 8))
 
 byte-same : {k : ℕ} {c d : Card} (x : Bit) (b : ℕ) → k < 8 → Same k c d → othersIn k 0 1 b ≡ false
@@ -149,8 +149,8 @@ pair-same : {k : ℕ} {c d : Card} (x y : Bit) (b : ℕ) → k < 8 → Same k c 
 pair-same {k} {c} {d} x y b h u e =
     let p = or-parts (othersIn k 0 1 b) (othersIn k 8 1 b) e in
     join (gathered (Single x) (c .channels)) (gathered (Single x) (d .channels)) (gathered (Single y) (c .channels)) (gathered (Single y) (d .channels)) 8 b
-        (gathered-below (Single x) (c .channels) (u .left .eight)) (gathered-below (Single x) (d .channels) (u .right .eight))
-        (λ l. byte-same x b h u (p .0)) (λ l. own-bit-in y 8 b h u (p .1) l)
+    (gathered-below (Single x) (c .channels) (u .left .eight)) (gathered-below (Single x) (d .channels) (u .right .eight))
+    (λ l. byte-same x b h u (p .0)) (λ l. own-bit-in y 8 b h u (p .1) l)
 
 -- 0x000 Global Control
 abbrev fields : Card → ℕ
@@ -164,16 +164,16 @@ control-same : {k : ℕ} {c d : Card} (b : ℕ) → k < 8 → Same k c d → (ot
 control-same {k} {c} {d} b h u e =
     let p = or-parts (othersIn k 0 2 b) (othersIn k 16 1 b) e in
     join-bit (fields c + bitAt 24 (c .shared .«timer_triggers»)) (fields d + bitAt 24 (d .shared .«timer_triggers»)) 25 b
-        (c .shared .«test_enabled») (d .shared .«test_enabled»)
-        (omega (arith, modes-below (c .channels) (u .left .eight), bit-at-most 24 (c .shared .«timer_triggers»)))
-        (omega (arith, modes-below (d .channels) (u .right .eight), bit-at-most 24 (d .shared .«timer_triggers»)))
-        (λ _. join-bit (fields c) (fields d) 24 b (c .shared .«timer_triggers») (d .shared .«timer_triggers»)
-            (modes-below (c .channels) (u .left .eight)) (modes-below (d .channels) (u .right .eight))
-            (λ _. join (gathered Mode (c .channels)) (gathered Mode (d .channels)) (gathered (Single SnapshotEnabled) (c .channels)) (gathered (Single SnapshotEnabled) (d .channels)) 16 b
-                (gathered-below Mode (c .channels) (u .left .eight)) (gathered-below Mode (d .channels) (u .right .eight))
-                (λ l. modes l (p .0)) (λ l. own-bit-in SnapshotEnabled 16 b h u (p .1) l))
-            (λ _. ap (λ (q : Shared). q .«timer_triggers») (u .shared)))
-        (λ _. ap (λ (q : Shared). q .«test_enabled») (u .shared))
+    (c .shared .«test_enabled») (d .shared .«test_enabled»)
+    (omega (arith, modes-below (c .channels) (u .left .eight), bit-at-most 24 (c .shared .«timer_triggers»)))
+    (omega (arith, modes-below (d .channels) (u .right .eight), bit-at-most 24 (d .shared .«timer_triggers»)))
+    (λ _. join-bit (fields c) (fields d) 24 b (c .shared .«timer_triggers») (d .shared .«timer_triggers»)
+    (modes-below (c .channels) (u .left .eight)) (modes-below (d .channels) (u .right .eight))
+    (λ _. join (gathered Mode (c .channels)) (gathered Mode (d .channels)) (gathered (Single SnapshotEnabled) (c .channels)) (gathered (Single SnapshotEnabled) (d .channels)) 16 b
+    (gathered-below Mode (c .channels) (u .left .eight)) (gathered-below Mode (d .channels) (u .right .eight))
+    (λ l. modes l (p .0)) (λ l. own-bit-in SnapshotEnabled 16 b h u (p .1) l))
+    (λ _. ap (λ (q : Shared). q .«timer_triggers») (u .shared)))
+    (λ _. ap (λ (q : Shared). q .«test_enabled») (u .shared))
   where
     modes : b < 16 → othersIn k 0 2 b ≡ false → flagOf (gathered Mode (c .channels)) b ≡ flagOf (gathered Mode (d .channels)) b
     modes l q = subst (λ t. flagOf (gathered Mode (c .channels)) t ≡ flagOf (gathered Mode (d .channels)) t)
@@ -202,9 +202,9 @@ debounce-below t h = omega (arith, base-below (t .base))
 debounce-same : {k : ℕ} {c d : Card} (b : ℕ) → k < 8 → Same k c d → othersIn k 24 1 b ≡ false → flagOf (debounceWord c) b ≡ flagOf (debounceWord d) b
 debounce-same {k} {c} {d} b h u e =
     join (debounceFields (c .shared .«input_debounce»)) (debounceFields (d .shared .«input_debounce»))
-        (gathered (Single InputDebounced) (c .channels)) (gathered (Single InputDebounced) (d .channels)) 24 b
-        (debounce-below (c .shared .«input_debounce») (u .left .time)) (debounce-below (d .shared .«input_debounce») (u .right .time))
-        (λ _. ap (λ (q : Shared). flagOf (debounceFields (q .«input_debounce»)) b) (u .shared)) (λ l. own-bit-in InputDebounced 24 b h u e l)
+    (gathered (Single InputDebounced) (c .channels)) (gathered (Single InputDebounced) (d .channels)) 24 b
+    (debounce-below (c .shared .«input_debounce») (u .left .time)) (debounce-below (d .shared .«input_debounce») (u .right .time))
+    (λ _. ap (λ (q : Shared). flagOf (debounceFields (q .«input_debounce»)) b) (u .shared)) (λ l. own-bit-in InputDebounced 24 b h u e l)
 
 -- 0x160 24 V Output Control: one of the two enables is the channel's
 enables-bit : (t l m l′ m′ : Bool) (b : ℕ) → cond t l false ≡ cond t l′ false → cond t false m ≡ cond t false m′ → cond t (eqb b 1) (eqb b 0) ≡ false
@@ -247,7 +247,7 @@ half-same false l m l′ m′ p q = q
 mask-same : {k : ℕ} {c d : Card} → k < 8 → Same k c d → flagOf (outputMask (c .shared)) k ≡ flagOf (outputMask (d .shared)) k
 mask-same {k} {c} {d} h u = mask-bit k h (c .shared .«low_outputs») (c .shared .«high_outputs»)
     ∙ half-same (ltb k 4) (c .shared .«low_outputs») (c .shared .«high_outputs») (d .shared .«low_outputs») (d .shared .«high_outputs»)
-        (ap (λ (q : Shared). q .«low_outputs») (u .shared)) (ap (λ (q : Shared). q .«high_outputs») (u .shared))
+    (ap (λ (q : Shared). q .«low_outputs») (u .shared)) (ap (λ (q : Shared). q .«high_outputs») (u .shared))
     ∙ sym (mask-bit k h (d .shared .«low_outputs») (d .shared .«high_outputs»))
 
 own-place : (k b : ℕ) → othersIn k 0 1 b ≡ false → b < 8 → k ≡ b
@@ -256,11 +256,11 @@ own-place k b e l = sym (in-own k 0 1 b e (omega arith) (omega arith)) ∙ (let 
 driven-same : {k : ℕ} {c d : Card} (b : ℕ) → k < 8 → Same k c d → othersIn k 0 1 b ≡ false → flagOf (drivenOutputs c) b ≡ flagOf (drivenOutputs d) b
 driven-same {k} {c} {d} b h u e =
     flag-and (gathered (Single Output) (c .channels)) (outputMask (c .shared)) b ∙ ⊎-elim
-        (λ (l : b < 8). ap₂ _&&_ (byte-same Output b h u e)
-            (subst (λ t. flagOf (outputMask (c .shared)) t ≡ flagOf (outputMask (d .shared)) t) (own-place k b e l) (mask-same h u)))
-        (λ (l : 8 ≤ b). and-left _ _ (flag-above (gathered (Single Output) (c .channels)) 8 b (gathered-below (Single Output) (c .channels) (u .left .eight)) l)
-            ∙ sym (and-left _ _ (flag-above (gathered (Single Output) (d .channels)) 8 b (gathered-below (Single Output) (d .channels) (u .right .eight)) l)))
-        (cases-lt b 8)
+    (λ (l : b < 8). ap₂ _&&_ (byte-same Output b h u e)
+    (subst (λ t. flagOf (outputMask (c .shared)) t ≡ flagOf (outputMask (d .shared)) t) (own-place k b e l) (mask-same h u)))
+    (λ (l : 8 ≤ b). and-left _ _ (flag-above (gathered (Single Output) (c .channels)) 8 b (gathered-below (Single Output) (c .channels) (u .left .eight)) l)
+    ∙ sym (and-left _ _ (flag-above (gathered (Single Output) (d .channels)) 8 b (gathered-below (Single Output) (d .channels) (u .right .eight)) l)))
+    (cases-lt b 8)
     ∙ sym (flag-and (gathered (Single Output) (d .channels)) (outputMask (d .shared)) b)
 
 -- what a tick answers
@@ -275,32 +275,32 @@ interrupts-same : {k : ℕ} {c d : Card} (b : ℕ) → k < 8 → Same k c d → 
     → flagOf (interruptEnables c) b ≡ flagOf (interruptEnables d) b
 interrupts-same {k} {c} {d} b h u e =
     join-bit (pairOf ValidEnabled FaultEnabled (c .channels) + bitAt 20 (c .shared .«timer_interrupt» .enabled))
-        (pairOf ValidEnabled FaultEnabled (d .channels) + bitAt 20 (d .shared .«timer_interrupt» .enabled)) 31 b
-        (c .shared .«clear_on_read») (d .shared .«clear_on_read»)
-        (omega (arith, pair-below ValidEnabled FaultEnabled (c .channels) (u .left .eight), bit-at-most 20 (c .shared .«timer_interrupt» .enabled)))
-        (omega (arith, pair-below ValidEnabled FaultEnabled (d .channels) (u .right .eight), bit-at-most 20 (d .shared .«timer_interrupt» .enabled)))
-        (λ _. join-bit (pairOf ValidEnabled FaultEnabled (c .channels)) (pairOf ValidEnabled FaultEnabled (d .channels)) 20 b
-            (c .shared .«timer_interrupt» .enabled) (d .shared .«timer_interrupt» .enabled)
-            (omega (arith, pair-below ValidEnabled FaultEnabled (c .channels) (u .left .eight)))
-            (omega (arith, pair-below ValidEnabled FaultEnabled (d .channels) (u .right .eight)))
-            (λ _. pair-same ValidEnabled FaultEnabled b h u e) (λ _. ap (λ (q : Shared). q .«timer_interrupt» .enabled) (u .shared)))
-        (λ _. ap (λ (q : Shared). q .«clear_on_read») (u .shared))
+    (pairOf ValidEnabled FaultEnabled (d .channels) + bitAt 20 (d .shared .«timer_interrupt» .enabled)) 31 b
+    (c .shared .«clear_on_read») (d .shared .«clear_on_read»)
+    (omega (arith, pair-below ValidEnabled FaultEnabled (c .channels) (u .left .eight), bit-at-most 20 (c .shared .«timer_interrupt» .enabled)))
+    (omega (arith, pair-below ValidEnabled FaultEnabled (d .channels) (u .right .eight), bit-at-most 20 (d .shared .«timer_interrupt» .enabled)))
+    (λ _. join-bit (pairOf ValidEnabled FaultEnabled (c .channels)) (pairOf ValidEnabled FaultEnabled (d .channels)) 20 b
+    (c .shared .«timer_interrupt» .enabled) (d .shared .«timer_interrupt» .enabled)
+    (omega (arith, pair-below ValidEnabled FaultEnabled (c .channels) (u .left .eight)))
+    (omega (arith, pair-below ValidEnabled FaultEnabled (d .channels) (u .right .eight)))
+    (λ _. pair-same ValidEnabled FaultEnabled b h u e) (λ _. ap (λ (q : Shared). q .«timer_interrupt» .enabled) (u .shared)))
+    (λ _. ap (λ (q : Shared). q .«clear_on_read») (u .shared))
 
 -- 0x188 Interrupt Status: all but EDGE STA
 pending-same : {k : ℕ} {c d : Card} (b : ℕ) → k < 8 → Same k c d → (othersIn k 0 1 b || othersIn k 8 1 b) ≡ false → (b ≡ 21 → ⊥)
     → flagOf (interruptStatus c) b ≡ flagOf (interruptStatus d) b
 pending-same {k} {c} {d} b h u e n =
     join-bit (pairOf ValidPending FaultPending (c .channels) + bitAt 20 (c .shared .«timer_interrupt» .pending))
-        (pairOf ValidPending FaultPending (d .channels) + bitAt 20 (d .shared .«timer_interrupt» .pending)) 21 b
-        (anyEdge (c .channels)) (anyEdge (d .channels))
-        (omega (arith, pair-below ValidPending FaultPending (c .channels) (u .left .eight), bit-at-most 20 (c .shared .«timer_interrupt» .pending)))
-        (omega (arith, pair-below ValidPending FaultPending (d .channels) (u .right .eight), bit-at-most 20 (d .shared .«timer_interrupt» .pending)))
-        (λ _. join-bit (pairOf ValidPending FaultPending (c .channels)) (pairOf ValidPending FaultPending (d .channels)) 20 b
-            (c .shared .«timer_interrupt» .pending) (d .shared .«timer_interrupt» .pending)
-            (omega (arith, pair-below ValidPending FaultPending (c .channels) (u .left .eight)))
-            (omega (arith, pair-below ValidPending FaultPending (d .channels) (u .right .eight)))
-            (λ _. pair-same ValidPending FaultPending b h u e) (λ _. ap (λ (q : Shared). q .«timer_interrupt» .pending) (u .shared)))
-        (λ q. absurd (n q))
+    (pairOf ValidPending FaultPending (d .channels) + bitAt 20 (d .shared .«timer_interrupt» .pending)) 21 b
+    (anyEdge (c .channels)) (anyEdge (d .channels))
+    (omega (arith, pair-below ValidPending FaultPending (c .channels) (u .left .eight), bit-at-most 20 (c .shared .«timer_interrupt» .pending)))
+    (omega (arith, pair-below ValidPending FaultPending (d .channels) (u .right .eight), bit-at-most 20 (d .shared .«timer_interrupt» .pending)))
+    (λ _. join-bit (pairOf ValidPending FaultPending (c .channels)) (pairOf ValidPending FaultPending (d .channels)) 20 b
+    (c .shared .«timer_interrupt» .pending) (d .shared .«timer_interrupt» .pending)
+    (omega (arith, pair-below ValidPending FaultPending (c .channels) (u .left .eight)))
+    (omega (arith, pair-below ValidPending FaultPending (d .channels) (u .right .eight)))
+    (λ _. pair-same ValidPending FaultPending b h u e) (λ _. ap (λ (q : Shared). q .«timer_interrupt» .pending) (u .shared)))
+    (λ q. absurd (n q))
 
 -- 0x1F0 Test
 test-same : {k : ℕ} {c d : Card} (b : ℕ) → k < 8 → Same k c d → (othersIn k 0 3 b || othersIn k 24 1 b) ≡ false
@@ -308,10 +308,10 @@ test-same : {k : ℕ} {c d : Card} (b : ℕ) → k < 8 → Same k c d → (other
 test-same {k} {c} {d} b h u e =
     let p = or-parts (othersIn k 0 3 b) (othersIn k 24 1 b) e in
     join (gathered Lines (c .channels)) (gathered Lines (d .channels)) (gathered (Single TestOutput) (c .channels)) (gathered (Single TestOutput) (d .channels)) 24 b
-        (gathered-below Lines (c .channels) (u .left .eight)) (gathered-below Lines (d .channels) (u .right .eight))
-        (λ l. subst (λ t. flagOf (gathered Lines (c .channels)) t ≡ flagOf (gathered Lines (d .channels)) t)
-            (let z : b - 0 ≡ b = omega arith in z) (own-field Lines 0 b h u (p .0) (omega arith) (omega arith)))
-        (λ l. own-bit-in TestOutput 24 b h u (p .1) l)
+    (gathered-below Lines (c .channels) (u .left .eight)) (gathered-below Lines (d .channels) (u .right .eight))
+    (λ l. subst (λ t. flagOf (gathered Lines (c .channels)) t ≡ flagOf (gathered Lines (d .channels)) t)
+    (let z : b - 0 ≡ b = omega arith in z) (own-field Lines 0 b h u (p .0) (omega arith) (omega arith)))
+    (λ l. own-bit-in TestOutput 24 b h u (p .1) l)
 
 -- every shared register
 data Agree (b x y : ℕ) : Type 0 where

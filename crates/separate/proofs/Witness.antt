@@ -29,5 +29,9 @@ modes-differ (suc (suc (suc (suc b)))) e =
 
 pub alike-for-one : AlikeForOne
 unfolding samplesIn ticked phaseTicked completion phaseRequested requested ssiTicked decoded advanced advanceOutcome tickCauses counterTicked controlAnswer controlWritten dataRead dataWord entered left statusShown registerShown registerTaken registerWritten bitOf performed shareOf channelTicked acted gathered tableTicked powerOn readDone tickDone tickLevels writeDone
-alike-for-one = (more (writes refl modes-differ) (more (writes refl (λ b e. refl)) (more (ticks refl refl refl refl) (more (elsewhere refl refl)
-    (more (ticks refl refl refl refl) (more (reads refl) (more (reads refl) none)))))), refl, refl)
+alike-for-one = (
+  more (writes refl modes-differ) (more (writes refl (λ b e. refl)) (more (ticks refl refl refl refl) (more (elsewhere refl refl)
+      (more (ticks refl refl refl refl) (more (reads refl) (more (reads refl) none)))))),
+  refl,
+  refl,
+)

@@ -32,11 +32,11 @@ use Rattle.separate.proofs.Same.{Same, same-acts, same-cond, same-if, same-sha
 pub same-triggered : {k : ℕ} {c d : Card} → k < 8 → Same k c d → Same k (triggered c) (triggered d)
 same-triggered {k} {c} {d} h s = same-acts Snapshot Snapshot h (λ x. refl)
     (same-shared (withOverflow (not (eqb (statusWord (statusOf c)) 0)) (c .shared)) (withOverflow (not (eqb (statusWord (statusOf d)) 0)) (d .shared))
-        (s .left .time) (s .right .time) (s .shared) s)
+    (s .left .time) (s .right .time) (s .shared) s)
 
 same-cleared : {k : ℕ} {c d : Card} → k < 8 → Same k c d
     → Same k (withTable (onAll ClearSnapshot c .channels) (withShared (withOverflow false (c .shared)) c))
-        (withTable (onAll ClearSnapshot d .channels) (withShared (withOverflow false (d .shared)) d))
+    (withTable (onAll ClearSnapshot d .channels) (withShared (withOverflow false (d .shared)) d))
 same-cleared {k} {c} {d} h s = same-acts ClearSnapshot ClearSnapshot h (λ x. refl)
     (same-shared (withOverflow false (c .shared)) (withOverflow false (d .shared)) (s .left .time) (s .right .time) (s .shared) s)
 
@@ -48,14 +48,23 @@ control-acts k v w h e x = ap₂ (λ m on. controlled m on x)
     (e (16 + k) (or-from _ _ (above-fields k 0 2 (16 + k) (omega arith)) (own-bit k 16 1 (16 + k) (omega arith))))
 
 abbrev controlFlags : Bool → Bool → Shared → Shared
-controlFlags x y s = record { «test_enabled» = x; «timer_triggers» = y; overflow = s .overflow;
-  «input_debounce» = s .«input_debounce»; «low_outputs» = s .«low_outputs»; «high_outputs» = s .«high_outputs»;
-  timer = s .timer; «timer_interrupt» = s .«timer_interrupt»; «clear_on_read» = s .«clear_on_read»; scratchpad = s .scratchpad }
+controlFlags x y s = record {
+  «test_enabled» = x;
+  «timer_triggers» = y;
+  overflow = s .overflow;
+  «input_debounce» = s .«input_debounce»;
+  «low_outputs» = s .«low_outputs»;
+  «high_outputs» = s .«high_outputs»;
+  timer = s .timer;
+  «timer_interrupt» = s .«timer_interrupt»;
+  «clear_on_read» = s .«clear_on_read»;
+  scratchpad = s .scratchpad;
+}
 
 same-control : {k : ℕ} {c d : Card} (v w : ℕ) → k < 8 → SameFor k 0 v w → Same k c d → Same k (controlWritten v c) (controlWritten w d)
 same-control {k} {c} {d} v w h e s = same-acts (Control v) (Control w) h (control-acts k v w h e)
     (same-shared (controlSet v (c .shared)) (controlSet w (d .shared)) (s .left .time) (s .right .time)
-        (ap (controlSet v) (s .shared) ∙ ap₂ (λ x y. controlFlags x y (sharedFor k (d .shared))) (e 25 refl) (e 24 refl)) s)
+    (ap (controlSet v) (s .shared) ∙ ap₂ (λ x y. controlFlags x y (sharedFor k (d .shared))) (e 25 refl) (e 24 refl)) s)
 
 -- 0x004 Global Command
 load-acts : (k v w : ℕ) → k < 8 → SameFor k 4 v w → (x : Channel) → performed (Load v) k x ≡ performed (Load w) k x
@@ -66,7 +75,7 @@ same-command : {k : ℕ} {c d : Card} (v w : ℕ) → k < 8 → SameFor k 4 v w 
 same-command {k} {c} {d} v w h e s =
     let loads : Same k (onAll (Load v) c) (onAll (Load w) d) = same-acts (Load v) (Load w) h (load-acts k v w h e) s in
     let clears : Same k (snapshotsCleared (flagOf v 9) (onAll (Load v) c)) (snapshotsCleared (flagOf w 9) (onAll (Load w) d))
-            = same-cond (flagOf v 9) (flagOf w 9) (e 9 refl) (same-cleared h loads) loads in
+    = same-cond (flagOf v 9) (flagOf w 9) (e 9 refl) (same-cleared h loads) loads in
     same-cond (flagOf v 8) (flagOf w 8) (e 8 refl) (same-triggered h clears) clears
 
 -- 0x154 24 V Input Debouncing
@@ -85,9 +94,18 @@ debounce-acts k v w h e x = ap₂ (λ on p. withInput (debouncedBy on p (x .inpu
     (e (24 + k) (own-bit k 24 1 (24 + k) (omega arith))) (ap periodOf (debounce-same k v w e))
 
 abbrev debounced : Debounce → Shared → Shared
-debounced t s = record { «test_enabled» = s .«test_enabled»; «timer_triggers» = s .«timer_triggers»; overflow = s .overflow;
-  «input_debounce» = t; «low_outputs» = s .«low_outputs»; «high_outputs» = s .«high_outputs»;
-  timer = s .timer; «timer_interrupt» = s .«timer_interrupt»; «clear_on_read» = s .«clear_on_read»; scratchpad = s .scratchpad }
+debounced t s = record {
+  «test_enabled» = s .«test_enabled»;
+  «timer_triggers» = s .«timer_triggers»;
+  overflow = s .overflow;
+  «input_debounce» = t;
+  «low_outputs» = s .«low_outputs»;
+  «high_outputs» = s .«high_outputs»;
+  timer = s .timer;
+  «timer_interrupt» = s .«timer_interrupt»;
+  «clear_on_read» = s .«clear_on_read»;
+  scratchpad = s .scratchpad;
+}
 
 time-below : (v : ℕ) → fieldOf v 0 16 < 65536
 time-below v = omega arith
@@ -96,13 +114,22 @@ same-debounce : {k : ℕ} {c d : Card} (v w : ℕ) → k < 8 → SameFor k 340 v
 same-debounce {k} {c} {d} v w h e s =
     same-acts (DebounceInput v (periodOf (debounceOf v))) (DebounceInput w (periodOf (debounceOf w))) h (debounce-acts k v w h e)
     (same-shared (debounceSet v (c .shared)) (debounceSet w (d .shared)) (time-below v) (time-below w)
-        (ap (debounceSet v) (s .shared) ∙ ap (λ t. debounced t (sharedFor k (d .shared))) (debounce-same k v w e)) s)
+    (ap (debounceSet v) (s .shared) ∙ ap (λ t. debounced t (sharedFor k (d .shared))) (debounce-same k v w e)) s)
 
 -- 0x160 24 V Output Control
 abbrev outputs : Bool → Bool → Shared → Shared
-outputs x y s = record { «test_enabled» = s .«test_enabled»; «timer_triggers» = s .«timer_triggers»; overflow = s .overflow;
-  «input_debounce» = s .«input_debounce»; «low_outputs» = x; «high_outputs» = y;
-  timer = s .timer; «timer_interrupt» = s .«timer_interrupt»; «clear_on_read» = s .«clear_on_read»; scratchpad = s .scratchpad }
+outputs x y s = record {
+  «test_enabled» = s .«test_enabled»;
+  «timer_triggers» = s .«timer_triggers»;
+  overflow = s .overflow;
+  «input_debounce» = s .«input_debounce»;
+  «low_outputs» = x;
+  «high_outputs» = y;
+  timer = s .timer;
+  «timer_interrupt» = s .«timer_interrupt»;
+  «clear_on_read» = s .«clear_on_read»;
+  scratchpad = s .scratchpad;
+}
 
 -- of the two enables the channel has one
 half-same : (v w : ℕ) (low : Bool) → ((b : ℕ) → cond low (eqb b 1) (eqb b 0) ≡ false → flagOf v b ≡ flagOf w b)
@@ -115,8 +142,8 @@ same-enables : {k : ℕ} {c d : Card} (v w : ℕ) → SameFor k 352 v w → Same
 same-enables {k} {c} {d} v w e s =
     let p = half-same v w (ltb k 4) e in
     same-shared (outputsEnabled v (c .shared)) (outputsEnabled w (d .shared)) (s .left .time) (s .right .time)
-        (ap (outputs (cond (ltb k 4) (flagOf v 0) false) (cond (ltb k 4) false (flagOf v 1))) (s .shared)
-        ∙ ap₂ (λ x y. outputs x y (sharedFor k (d .shared))) (p .0) (p .1)) s
+    (ap (outputs (cond (ltb k 4) (flagOf v 0) false) (cond (ltb k 4) false (flagOf v 1))) (s .shared)
+    ∙ ap₂ (λ x y. outputs x y (sharedFor k (d .shared))) (p .0) (p .1)) s
 
 -- 0x164 24 V Output, 0x1F0 Test
 output-acts : (k v w : ℕ) → k < 8 → SameFor k 356 v w → (x : Channel) → performed (Output v) k x ≡ performed (Output w) k x
@@ -152,14 +179,23 @@ unfolding performed
 edges-acknowledge k v w h e x = ap₂ (λ a b. acknowledgedEdges a b x) (low-bit k v w h e) (high-bit k v w h e)
 
 abbrev interruptFlags : Bool → Bool → Shared → Shared
-interruptFlags x y s = record { «test_enabled» = s .«test_enabled»; «timer_triggers» = s .«timer_triggers»; overflow = s .overflow;
-  «input_debounce» = s .«input_debounce»; «low_outputs» = s .«low_outputs»; «high_outputs» = s .«high_outputs»;
-  timer = s .timer; «timer_interrupt» = enabledTo x (s .«timer_interrupt»); «clear_on_read» = y; scratchpad = s .scratchpad }
+interruptFlags x y s = record {
+  «test_enabled» = s .«test_enabled»;
+  «timer_triggers» = s .«timer_triggers»;
+  overflow = s .overflow;
+  «input_debounce» = s .«input_debounce»;
+  «low_outputs» = s .«low_outputs»;
+  «high_outputs» = s .«high_outputs»;
+  timer = s .timer;
+  «timer_interrupt» = enabledTo x (s .«timer_interrupt»);
+  «clear_on_read» = y;
+  scratchpad = s .scratchpad;
+}
 
 same-interrupts : {k : ℕ} {c d : Card} (v w : ℕ) → k < 8 → SameFor k 384 v w → Same k c d → Same k (enablesWritten v c) (enablesWritten w d)
 same-interrupts {k} {c} {d} v w h e s = same-acts (EnableInterrupts v) (EnableInterrupts w) h (enable-acts k v w h e)
     (same-shared (interruptsSet v (c .shared)) (interruptsSet w (d .shared)) (s .left .time) (s .right .time)
-        (ap (interruptsSet v) (s .shared) ∙ ap₂ (λ x y. interruptFlags x y (sharedFor k (d .shared))) (e 20 refl) (e 31 refl)) s)
+    (ap (interruptsSet v) (s .shared) ∙ ap₂ (λ x y. interruptFlags x y (sharedFor k (d .shared))) (e 20 refl) (e 31 refl)) s)
 
 abbrev timerAnswered : Bool → Shared → Shared
 timerAnswered x s = withTimer (s .timer) (acknowledged x (s .«timer_interrupt»)) s
@@ -167,7 +203,7 @@ timerAnswered x s = withTimer (s .timer) (acknowledged x (s .«timer_interrupt»
 pub same-acknowledged : {k : ℕ} {c d : Card} (v w : ℕ) → k < 8 → SameFor k 392 v w → Same k c d → Same k (acknowledgedAll v c) (acknowledgedAll w d)
 same-acknowledged {k} {c} {d} v w h e s = same-acts (AcknowledgeInterrupts v) (AcknowledgeInterrupts w) h (acknowledge-acts k v w h e)
     (same-shared (timerAcknowledged v (c .shared)) (timerAcknowledged w (d .shared)) (s .left .time) (s .right .time)
-        (ap (timerAcknowledged v) (s .shared) ∙ ap (λ x. timerAnswered x (sharedFor k (d .shared))) (e 20 refl)) s)
+    (ap (timerAcknowledged v) (s .shared) ∙ ap (λ x. timerAnswered x (sharedFor k (d .shared))) (e 20 refl)) s)
 
 pub clears-same : {k : ℕ} {c d : Card} → Same k c d → c .shared .«clear_on_read» ≡ d .shared .«clear_on_read»
 clears-same s = ap (λ (q : Shared). q .«clear_on_read») (s .shared)
@@ -175,7 +211,7 @@ clears-same s = ap (λ (q : Shared). q .«clear_on_read») (s .shared)
 -- a register that is no channel's, written with one word
 same-timer : {k : ℕ} {c d : Card} (f : Timer → Timer) → Same k c d
     → Same k (withShared (withTimer (f (c .shared .timer)) (c .shared .«timer_interrupt») (c .shared)) c)
-        (withShared (withTimer (f (d .shared .timer)) (d .shared .«timer_interrupt») (d .shared)) d)
+    (withShared (withTimer (f (d .shared .timer)) (d .shared .«timer_interrupt») (d .shared)) d)
 same-timer {k} {c} {d} f s = same-shared (withTimer (f (c .shared .timer)) (c .shared .«timer_interrupt») (c .shared))
     (withTimer (f (d .shared .timer)) (d .shared .«timer_interrupt») (d .shared)) (s .left .time) (s .right .time)
     (ap (λ (q : Shared). withTimer (f (q .timer)) (q .«timer_interrupt») q) (s .shared)) s
@@ -203,7 +239,7 @@ same-write {k} {c} {d} o v w h e s =
     same-if (eqb o 388) (λ t. same-acts (EnableEdges v) (EnableEdges w) h (edge-acts k v w h (at-offset k o 388 v w t e)) s) (
     same-if (eqb o 392) (λ t. same-cond (c .shared .«clear_on_read») (d .shared .«clear_on_read») (clears-same s) s (same-acknowledged v w h (at-offset k o 392 v w t e) s)) (
     same-if (eqb o 396) (λ t. same-cond (c .shared .«clear_on_read») (d .shared .«clear_on_read») (clears-same s) s
-        (same-acts (AcknowledgeEdges v) (AcknowledgeEdges w) h (edges-acknowledge k v w h (at-offset k o 396 v w t e)) s)) (
+    (same-acts (AcknowledgeEdges v) (AcknowledgeEdges w) h (edges-acknowledge k v w h (at-offset k o 396 v w t e)) s)) (
     same-if (eqb o 496) (λ t. same-acts (TestOutput v) (TestOutput w) h (test-acts k v w h (at-offset k o 496 v w t e)) s) (
     same-if (eqb o 504) (λ t. whole 504 t (λ b. refl) (λ q. withShared (withScratchpad q (d .shared)) d) (same-scratchpad v s)) s))))))))))))
   where

@@ -22,6 +22,6 @@ busy = Write 0 9 ∷ Write 64 57 ∷ Tick 7 1 ∷ Write 513 5 ∷ Tick 5 1 ∷ R
 abbrev pub AlikeForOne : Type 0
 AlikeForOne = AllAlike 1 quiet busy
     × (answers powerOn quiet ≡ Done (Ok tt) ∷ Done (Ok tt) ∷ Levels (record { clocks = 255; outputs = 0 }) ∷ Value (Ok 0)
-        ∷ Levels (record { clocks = 255; outputs = 0 }) ∷ Value (Ok 2) ∷ Value (Ok 8) ∷ [])
+    ∷ Levels (record { clocks = 255; outputs = 0 }) ∷ Value (Ok 2) ∷ Value (Ok 8) ∷ [])
     × (answers powerOn busy ≡ Done (Ok tt) ∷ Done (Ok tt) ∷ Levels (record { clocks = 255; outputs = 0 }) ∷ Done (Err Offset)
-        ∷ Levels (record { clocks = 255; outputs = 0 }) ∷ Value (Ok 2) ∷ Value (Ok 9) ∷ [])
+    ∷ Levels (record { clocks = 255; outputs = 0 }) ∷ Value (Ok 2) ∷ Value (Ok 9) ∷ [])

@@ -23,9 +23,9 @@ nowhere o = not (eqb (o % 4) 0) || ltb 508 o
 -- whether the register at an offset is channel k's or no single channel's; an MCR Data Register is its channel's
 abbrev pub concerns : ℕ → ℕ → Bool
 concerns k o =
-  cond (nowhere o) false (
-  cond (inChannels o) (eqb (channelAt o) k) (
-  cond (inSnapshots o) (eqb (snapshotAt o) k) true))
+    cond (nowhere o) false (
+    cond (inChannels o) (eqb (channelAt o) k) (
+    cond (inSnapshots o) (eqb (snapshotAt o) k) true))
 
 -- eight fields of w bits, channel 0's from bit f up: whether bit b is in one of them, and that is not channel k's
 abbrev pub othersIn : ℕ → ℕ → ℕ → ℕ → Bool
@@ -34,30 +34,30 @@ othersIn k f w b = leb f b && (ltb b (f + 8 * w) && not (eqb ((b - f) / w) k))
 -- whether bit b of the register at an offset is named for other channels than k
 abbrev pub namedForOthers : ℕ → ℕ → ℕ → Bool
 namedForOthers k o b =
-  -- 0x000 Global Control: MODE 15:0, MCR 23:16
-  cond (eqb o 0) (othersIn k 0 2 b || othersIn k 16 1 b) (
-  -- 0x004 Global Command: LCNT 7:0
-  cond (eqb o 4) (othersIn k 0 1 b) (
-  -- 0x150 24 V Input: the levels 7:0
-  cond (eqb o 336) (othersIn k 0 1 b) (
-  -- 0x154 24 V Input Debouncing: ADE 31:24
-  cond (eqb o 340) (othersIn k 24 1 b) (
-  -- 0x160 24 V Output Control: DOEN03 is bit 0, for channels 0 to 3, and DOEN47 bit 1, for channels 4 to 7
-  cond (eqb o 352) (cond (ltb k 4) (eqb b 1) (eqb b 0)) (
-  -- 0x164 24 V Output: DO 7:0
-  cond (eqb o 356) (othersIn k 0 1 b) (
-  -- 0x168 24 V Output Status: DOS 7:0
-  cond (eqb o 360) (othersIn k 0 1 b) (
-  -- 0x180 Interrupt Enable: VCM EN 7:0, FCM EN 15:8
-  cond (eqb o 384) (othersIn k 0 1 b || othersIn k 8 1 b) (
-  -- 0x184 24 V Input Interrupt Enable: rising 7:0, falling 15:8
-  cond (eqb o 388) (othersIn k 0 1 b || othersIn k 8 1 b) (
-  -- 0x188 Interrupt Status: VCM STA 7:0, FCM STA 15:8
-  cond (eqb o 392) (othersIn k 0 1 b || othersIn k 8 1 b) (
-  -- 0x18C 24 V Input Interrupt Status: rising 7:0, falling 15:8
-  cond (eqb o 396) (othersIn k 0 1 b || othersIn k 8 1 b) (
-  -- 0x1F0 Test: the lines 23:0, OUT 31:24
-  cond (eqb o 496) (othersIn k 0 3 b || othersIn k 24 1 b) false)))))))))))
+    -- 0x000 Global Control: MODE 15:0, MCR 23:16
+    cond (eqb o 0) (othersIn k 0 2 b || othersIn k 16 1 b) (
+    -- 0x004 Global Command: LCNT 7:0
+    cond (eqb o 4) (othersIn k 0 1 b) (
+    -- 0x150 24 V Input: the levels 7:0
+    cond (eqb o 336) (othersIn k 0 1 b) (
+    -- 0x154 24 V Input Debouncing: ADE 31:24
+    cond (eqb o 340) (othersIn k 24 1 b) (
+    -- 0x160 24 V Output Control: DOEN03 is bit 0, for channels 0 to 3, and DOEN47 bit 1, for channels 4 to 7
+    cond (eqb o 352) (cond (ltb k 4) (eqb b 1) (eqb b 0)) (
+    -- 0x164 24 V Output: DO 7:0
+    cond (eqb o 356) (othersIn k 0 1 b) (
+    -- 0x168 24 V Output Status: DOS 7:0
+    cond (eqb o 360) (othersIn k 0 1 b) (
+    -- 0x180 Interrupt Enable: VCM EN 7:0, FCM EN 15:8
+    cond (eqb o 384) (othersIn k 0 1 b || othersIn k 8 1 b) (
+    -- 0x184 24 V Input Interrupt Enable: rising 7:0, falling 15:8
+    cond (eqb o 388) (othersIn k 0 1 b || othersIn k 8 1 b) (
+    -- 0x188 Interrupt Status: VCM STA 7:0, FCM STA 15:8
+    cond (eqb o 392) (othersIn k 0 1 b || othersIn k 8 1 b) (
+    -- 0x18C 24 V Input Interrupt Status: rising 7:0, falling 15:8
+    cond (eqb o 396) (othersIn k 0 1 b || othersIn k 8 1 b) (
+    -- 0x1F0 Test: the lines 23:0, OUT 31:24
+    cond (eqb o 496) (othersIn k 0 3 b || othersIn k 24 1 b) false)))))))))))
 
 -- MCR STA, bits 1:0 of 0x008, and EDGE STA, bit 21 of 0x188, tell of all channels at once
 abbrev pub tellsOfAll : ℕ → ℕ → Bool
@@ -77,7 +77,7 @@ Elsewhere k (Write o v) = concerns k o ≡ false
 -- register of k or of no single channel; any two accesses that are none of k's
 pub data Alike (k : ℕ) : Call → Call → Type 0 where
   ticks : {l m i j : ℕ} → flagOf l (3 * k) ≡ flagOf m (3 * k) → flagOf l (3 * k + 1) ≡ flagOf m (3 * k + 1)
-    → flagOf l (3 * k + 2) ≡ flagOf m (3 * k + 2) → flagOf i k ≡ flagOf j k → Alike k (Tick l i) (Tick m j)
+      → flagOf l (3 * k + 2) ≡ flagOf m (3 * k + 2) → flagOf i k ≡ flagOf j k → Alike k (Tick l i) (Tick m j)
   reads : {o : ℕ} → concerns k o ≡ true → Alike k (Read o) (Read o)
   writes : {o v w : ℕ} → concerns k o ≡ true → SameFor k o v w → Alike k (Write o v) (Write o w)
   elsewhere : {x y : Call} → Elsewhere k x → Elsewhere k y → Alike k x y
