@@ -3,6 +3,7 @@ ghost use mathlib.Core.List.{_++_};
 ghost use mathlib.Core.Path.{_≡_};
 ghost use lib.ListN.{drop, length, take};
 ghost use Rattle.rig.specs.Benches.{answersOn, bench, newBench, runOn};
+ghost use Rattle.delivered.specs.Delivery.{Delivers};
 ghost use Rattle.rig_runs.specs.Laws.{CountsOnRig};
 ghost use Rattle.separate.specs.Separation.{Separate};
 use card::Card;
@@ -16,6 +17,7 @@ pub fn run_calls<F: Field>(field: &mut F, calls: &[RigCall], answers: &mut [RigA
     ensures state { λ r. ⌜ bench r (F·Field .wired (now (field .exit))) ≡ runOn (newBench (F·Field .wired (now (field .entry)))) (take (length (now (answers .entry))) (now (calls .entry))) ⌝ }
     ensures answers { λ _. ⌜ now (answers .exit) ≡ answersOn (newBench (F·Field .wired (now (field .entry)))) (take (length (now (answers .entry))) (now (calls .entry))) ++ drop (length (now (calls .entry))) (now (answers .entry)) ⌝ }
     ensures counts { λ _. ⌜ CountsOnRig ⌝ }
+    ensures delivered { λ _. ⌜ Delivers ⌝ }
     ensures separate { λ _. ⌜ Separate ⌝ }
 {
     let mut card = Card::power_on();

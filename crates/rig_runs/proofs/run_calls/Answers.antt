@@ -3,6 +3,7 @@ use Prim.Native.Nat.{min}
 use native.Mathlib.Omega.{arith}
 use lib.ListN.{getD, length, take}
 use Rattle.rig.specs.Benches.{Bench, answerOn, bench, newBench, runOn, stepOn}
+use Rattle.delivered.proofs.Stands.{delivers}
 use Rattle.rig_runs.proofs.Counted.{counts-on-rig}
 use Rattle.separate.proofs.Apart.{separate}
 use Rattle.rig_runs.proofs.Turns.{answers-end, answers-more, rest-more, run-end, run-more}
@@ -27,5 +28,6 @@ returns g c =
       state = run-end b _ (c .args .calls .now) (c .args .answers .now) (c .loop-i .i) e (c .loop-i .inv .0);
       answers = answers-end b (c .args .calls .now) (c .loop-i .answers) (c .args .answers .now) (c .loop-i .i) e (c .loop-i .inv .1) (c .loop-i .inv .2);
       counts = counts-on-rig;
+      delivered = delivers;
       separate = separate;
     }

@@ -1,0 +1,10 @@
+//! The law of delivered positions: what a transmission over a rig puts into the Data Register.
+ghost use Rattle.delivered.specs.Delivery.{Delivers};
+
+/// Every transmission that completes over a rig, with settings that fit its sensor, delivers the position that the sensor had
+/// before the clock first fell.
+pub fn positions_delivered() -> u8
+    ensures { λ _. ⌜ Delivers ⌝ }
+{
+    0
+}
