@@ -2,15 +2,16 @@
 use mathlib.Core.Path.{_≡_, refl, sym, ap, subst, _∙_}
 use mathlib.Core.Bool.{Bool, true, false, cond}
 use mathlib.Core.Logic.{_⊎_, inl, inr}
-use Prim.Native.Nat.{ℕ, _+_, _*_, _^_, _<_, _≤_}
+use Prim.Native.Nat.{ℕ, _*_, _^_, _<_, _≤_}
 use native.Mathlib.Omega.{arith}
 use lib.Pow.{pow-mono}
 use Rattle.std.proofs.shelf.Tests.{true≢false}
 use Rattle.std.specs.Options.{mapped}
 use Rattle.std.specs.declared.option.Option.{Option}
-use Rattle.std.specs.declared.option.Option.the-variants.{Some, None}
+use Rattle.std.specs.declared.option.Option.the-variants.{Some}
 use Rattle.filter.specs.declared.samples.Samples.{Samples}
 use Rattle.filter.specs.Filters.{lineFiltered, samplesIn, ticked}
+use Rattle.filter.specs.Debounces.{periodOf}
 use Rattle.frame.specs.Layout.{readingOf}
 use Rattle.frame.specs.declared.format.Format.{Format}
 use Rattle.counter_count.specs.declared.levels.Levels.{Levels}
@@ -28,14 +29,13 @@ use Rattle.sensor.proofs.Frames.{turn-keeps}
 use Rattle.sensor.proofs.Soundness.{frame-below, sent-is-read}
 use Rattle.channel.specs.declared.channel.Channel.{Channel}
 use Rattle.channel.specs.declared.lines.Lines.{Lines}
-use Rattle.channel.specs.declared.mode.Mode.{Mode}
-use Rattle.channel.specs.declared.mode.Mode.the-variants.{Off, Counter as Counting, Ssi as Reading}
+use Rattle.channel.specs.declared.mode.Mode.the-variants.{Ssi as Reading}
 use Rattle.channel.specs.Registers.{dataShown, dataShownAs}
 use Rattle.channel.specs.Shares.{clockLevel, clockLevelAs}
 use Rattle.channel.specs.Snapshots.{transmits, transmitsAs, triggered}
 use Rattle.channel.specs.Ticks.{channelTicked}
-use Rattle.delivered.proofs.Flight.{Flight, FlightAfter, Goes, Lands, Slow, bitsOf, flight-busy, flight-first, flight-tick, slow-tick}
-use Rattle.delivered.proofs.Changes.{Change, kept, asked, ended, restarted, Timed}
+use Rattle.delivered.proofs.Flight.{Flight, FlightAfter, Goes, Lands, bitsOf, flight-busy, flight-first, flight-tick, slow-tick}
+use Rattle.delivered.proofs.Changes.{Change, Filtering, filtering, kept, asked, ended, restarted, Timed}
 use Rattle.delivered.proofs.Ticks.{Stays, Transmits, seen, transmits-on, trigger-stays}
 use Rattle.delivered.proofs.Starts.{contrary}
 
@@ -64,7 +64,7 @@ mode-kept (ended m l) b e = contrary e m
 mode-kept (restarted r v m l) b e = m
 
 -- and where the filters are not restarted, it leaves them
-lines-kept : {R : Type 0} {h d : Channel} → (R → ⊥) → Change R h d → d .lines ≡ h .lines
+lines-kept : {R : Type 0} {h d : Channel} → (R → ⊥) → Change R h d → filtering d ≡ filtering h
 lines-kept n (kept m l) = l
 lines-kept n (asked i p a m o l) = l
 lines-kept n (ended m l) = l
@@ -82,7 +82,7 @@ aloft-change {R} {F} {pos} {h} {d} {o} n c b a =
       phase = a .phase;
       is = a .is;
       mode = mode-kept c (aloft-busy a) b ∙ a .mode;
-      flies = subst (λ (l : Lines). Flight (a .sensor .constants) F (a .half) (l .timing) (l .b) (a .phase) (a .sensor .phase) (a .sensor .clock)) (sym (lines-kept n c)) (a .flies);
+      flies = subst (λ (l : Filtering). Flight (a .sensor .constants) F (a .half) (l .lines .timing) (l .lines .b) (a .phase) (a .sensor .phase) (a .sensor .clock)) (sym (lines-kept n c)) (a .flies);
       small = a .small;
       reads = a .reads;
     }
@@ -192,7 +192,7 @@ aloft-tick {F} {pos} {h} {o} x i expired t clk a lv ck = go next
     go (inr l) = inr (lands F pos s (a .phase) x h h₁ t tr l (a .reads))
 
 -- the rig tick in which the clock first falls
-pub aloft-first : (H : ℕ) (f : Format) (s : Model) (h : Channel) (x : Levels) (i expired t clk : Bool) → Sound s → Timed h → 3 * h .lines .timing .period ≤ H
+pub aloft-first : (H : ℕ) (f : Format) (s : Model) (h : Channel) (x : Levels) (i expired t clk : Bool) → Sound s → Timed h → 3 * periodOf (h .debounce) ≤ H
     → h .mode ≡ Reading (Clocking (started H f)) → f ≡ s .constants .format → s .phase ≡ Idle → s .clock ≡ true
     → clk ≡ clockLevel (cond t (triggered (channelTicked x i expired h)) (channelTicked x i expired h))
     → Aloft (frameOf (s .constants) (s .position)) (s .position) (cond t (triggered (channelTicked x i expired h)) (channelTicked x i expired h)) (Some (advanced s clk))
@@ -202,7 +202,7 @@ aloft-first H f s h x i expired t clk sound timed slow m ef idle high ck =
     let tr = transmits-busy x i expired p h refl m in
     let S : Format → Sensing → Bool → Type 0 = λ g q k. FlightAfter (s .constants) F H (ticked (h .lines .timing)) (filteredAt h (x .b)) q k (s .position) (phaseTicked (seen x h) (Clocking (started H g))) in
     let below : F < 2 ^ bitsOf (s .constants) = frame-below s sound in
-    let first : S (s .constants .format) Idle true = flight-first (s .constants) (s .position) H (ticked (h .lines .timing)) (filteredAt h (x .b)) (seen x h) (omega arith) below (slow-tick H (h .lines .timing) (record { sound = timed; half = slow })) in
+    let first : S (s .constants .format) Idle true = flight-first (s .constants) (s .position) H (ticked (h .lines .timing)) (filteredAt h (x .b)) (seen x h) (omega (arith, timed .0, timed .1)) below (slow-tick H (h .lines .timing) (record { sound = timed .0; half = omega (arith, timed .1, slow) })) in
     let flies : S f (s .phase) (s .clock) = subst (λ g. S g (s .phase) (s .clock)) (sym ef) (subst (λ q. S (s .constants .format) q (s .clock)) (sym idle) (subst (S (s .constants .format) Idle) (sym high) first)) in
     let room : 2 ^ bitsOf (s .constants) ≤ 2 ^ 40 = pow-mono {i = bitsOf (s .constants)} {j = 40} (bits-most (s .constants .format)) in
     onward F (s .position) H s p x h (channelTicked x i expired h) t clk tr flies ck (omega (arith, below, room)) (sent-is-read s sound .number)

@@ -1,5 +1,5 @@
 -- What an access does to a channel's mode and line filters.
-use mathlib.Core.Path.{_≡_, refl, sym, ap, _∙_}
+use mathlib.Core.Path.{_≡_, refl, sym, subst}
 use mathlib.Core.Bool.{Bool, true, false, cond}
 use Prim.Native.Nat.{ℕ, _*_, _<_, _≤_}
 use native.Mathlib.Omega.{arith}
@@ -28,20 +28,32 @@ use Rattle.channel.specs.declared.mode.Mode.the-variants.{Off, Counter as Count
 use Rattle.channel.specs.declared.mode.OffCode.{OffCode}
 use Rattle.channel.specs.declared.mode.OffCode.the-variants.{Zeros, Ones}
 use Rattle.channel.specs.Lines.{linesRestarted}
-use Rattle.channel.specs.Modes.{becameCounter, becameCounterAs, becameOff, becameSsi, becameSsiAs, departedAs, modeWritten}
+use Rattle.channel.specs.Modes.{becameCounterAs, becameOff, becameSsiAs, departedAs, modeWritten}
 use Rattle.channel.specs.Records.{withSnapshot}
 use Rattle.channel.specs.Registers.{dataTakenAs, debounceWritten, registerTaken, registerWritten, takesRequests}
-use Rattle.channel.specs.Shares.{loadedAs, loadedBy, performed}
-use Rattle.channel.specs.Snapshots.{collectedOrLatched, snapped, snappedAs, ssiSnappedAs, transmits, triggered}
+use Rattle.channel.specs.Shares.{loadedAs, performed}
+use Rattle.channel.specs.Snapshots.{snappedAs, ssiSnappedAs, transmits, triggered}
 use Rattle.channel.specs.Ticks.{requested, requestedAs}
+
+-- the line filters of a channel and their debouncing settings
+pub record Filtering : Type 0 where
+  pub lines : Lines
+  pub debounce : Debounce
+
+abbrev pub filtering : Channel → Filtering
+filtering c = record { lines = c .lines; debounce = c .debounce }
+
+-- the filters after a write v of the Debouncing Register
+abbrev pub filteringBy : ℕ → Channel → Filtering
+filteringBy v c = record { lines = linesRestarted (periodOf (debounceOf v)) (c .lines); debounce = debounceOf v }
 
 -- What becomes of a channel's mode and of its line filters: they stay; a request meets the controller; there is no transmission
 -- afterwards; or, where R holds, the filters restart.
 pub data Change (R : Type 0) (c d : Channel) : Type 0 where
-  kept : d .mode ≡ c .mode → d .lines ≡ c .lines → Change R c d
-  asked : (i : Ssi) (p : Phase) → c .mode ≡ Reading p → d .mode ≡ Reading (phaseRequested i p) → d .ssi .control ≡ i .control → d .lines ≡ c .lines → Change R c d
-  ended : transmits d ≡ false → d .lines ≡ c .lines → Change R c d
-  restarted : R → (v : ℕ) → d .mode ≡ c .mode → d .lines ≡ linesRestarted (periodOf (debounceOf v)) (c .lines) → Change R c d
+  kept : d .mode ≡ c .mode → filtering d ≡ filtering c → Change R c d
+  asked : (i : Ssi) (p : Phase) → c .mode ≡ Reading p → d .mode ≡ Reading (phaseRequested i p) → d .ssi .control ≡ i .control → filtering d ≡ filtering c → Change R c d
+  ended : transmits d ≡ false → filtering d ≡ filtering c → Change R c d
+  restarted : R → (v : ℕ) → d .mode ≡ c .mode → filtering d ≡ filteringBy v c → Change R c d
 
 pub none : {R : Type 0} {c : Channel} → Change R c c
 none = kept refl refl
@@ -86,10 +98,10 @@ pub trigger-change : {R : Type 0} (c : Channel) → Change R c (triggered c)
 trigger-change c = either (c .snapshot .enabled) (snapped-as (c .mode) c) none
 
 -- the modes
-departed-lines : (m : Mode) (c : Channel) → departedAs m c .lines ≡ c .lines
+departed-lines : (m : Mode) (c : Channel) → filtering (departedAs m c) ≡ filtering c
 departed-lines (Off z) c = refl
 departed-lines Counting c = refl
-departed-lines (Reading p) c = cond-both (busyIn p) (withSnapshot (completed 0 (c .snapshot)) c) c (λ x. x .lines ≡ c .lines) (λ _. refl) (λ _. refl)
+departed-lines (Reading p) c = cond-both (busyIn p) (withSnapshot (completed 0 (c .snapshot)) c) c (λ x. filtering x ≡ filtering c) (λ _. refl) (λ _. refl)
 
 off-change : {R : Type 0} (z : OffCode) (c : Channel) → Change R c (becameOff z c)
 off-change z c = ended refl (departed-lines (c .mode) c)
@@ -109,16 +121,16 @@ mode-change n c =
     either (eqb n 0) (off-change Zeros c) (either (eqb n 1) (ssi-as (c .mode) c) (either (eqb n 2) (counter-as (c .mode) c) (off-change Ones c)))
 
 -- a load
-loaded-as : (m : Mode) (c : Channel) → (loadedAs m c .mode ≡ c .mode) × (loadedAs m c .lines ≡ c .lines)
+loaded-as : (m : Mode) (c : Channel) → (loadedAs m c .mode ≡ c .mode) × (filtering (loadedAs m c) ≡ filtering c)
 loaded-as (Off z) c = (refl, refl)
 loaded-as Counting c = (refl, refl)
 loaded-as (Reading p) c = (refl, refl)
 
-pub load-keeps : (w k : ℕ) (c : Channel) → (performed (Load w) k c .mode ≡ c .mode) × (performed (Load w) k c .lines ≡ c .lines)
+pub load-keeps : (w k : ℕ) (c : Channel) → (performed (Load w) k c .mode ≡ c .mode) × (filtering (performed (Load w) k c) ≡ filtering c)
 unfolding performed
-load-keeps w k c = cond-both _ (loadedAs (c .mode) c) c (λ x. (x .mode ≡ c .mode) × (x .lines ≡ c .lines)) (λ _. loaded-as (c .mode) c) (λ _. (refl, refl))
+load-keeps w k c = cond-both _ (loadedAs (c .mode) c) c (λ x. (x .mode ≡ c .mode) × (filtering x ≡ filtering c)) (λ _. loaded-as (c .mode) c) (λ _. (refl, refl))
 
-pub clear-keeps : (k : ℕ) (c : Channel) → (performed ClearSnapshot k c .mode ≡ c .mode) × (performed ClearSnapshot k c .lines ≡ c .lines)
+pub clear-keeps : (k : ℕ) (c : Channel) → (performed ClearSnapshot k c .mode ≡ c .mode) × (filtering (performed ClearSnapshot k c) ≡ filtering c)
 unfolding performed
 clear-keeps k c = (refl, refl)
 
@@ -169,16 +181,15 @@ period-some d =
     cond-both (eqb (d .time) 0) 1 (d .time * baseTicks (d .base)) (λ n. 0 < n) (λ _. omega arith)
     (λ e. base-some (d .base) (d .time) (omega (arith, eqb-false (d .time) 0 e)))
 
--- the filters have a phase below their period
-abbrev pub Timed : Channel → Type 0
-Timed c = c .lines .timing .phase < c .lines .timing .period
+-- the filters sample with the period of the settings, and their phase is below it
+abbrev pub Paced : Filtering → Type 0
+Paced f = (f .lines .timing .phase < f .lines .timing .period) × (f .lines .timing .period ≡ periodOf (f .debounce))
 
-same-timed : (c d : Channel) → d .lines ≡ c .lines → Timed c → Timed d
-same-timed c d e h = omega (arith, h, ap (λ (x : Lines). x .timing .phase) e, ap (λ (x : Lines). x .timing .period) e)
+abbrev pub Timed : Channel → Type 0
+Timed c = Paced (filtering c)
 
 pub timed-change : {R : Type 0} {c d : Channel} → Change R c d → Timed c → Timed d
-timed-change {R} {c} {d} (kept m l) h = same-timed c d l h
-timed-change {R} {c} {d} (asked i p e m o l) h = same-timed c d l h
-timed-change {R} {c} {d} (ended m l) h = same-timed c d l h
-timed-change {R} {c} {d} (restarted r v m l) h =
-    omega (arith, period-some (debounceOf v), ap (λ (x : Lines). x .timing .phase) l, ap (λ (x : Lines). x .timing .period) l)
+timed-change (kept m l) h = subst Paced (sym l) h
+timed-change (asked i p e m o l) h = subst Paced (sym l) h
+timed-change (ended m l) h = subst Paced (sym l) h
+timed-change (restarted r v m l) h = subst Paced (sym l) (period-some (debounceOf v), refl)

@@ -6,7 +6,6 @@ use Prim.Native.Nat.{ℕ, zero, suc, _+_, _-_, _*_, _/_, _%_, _^_, _<_, _≤_}
 use native.Mathlib.Omega.{arith}
 use native.Mathlib.Nat.{div-one, div-eq-of-lt, div-le-self}
 use native.Mathlib.Numerals.{add-one}
-use lib.Dec.{eqb, ltb}
 use Rattle.std.proofs.shelf.Bits.{shr-shr}
 use Rattle.std.proofs.shelf.Tests.{cases-eq, eqb-true, eqb-false, lt-ltb, ne-eqb}
 use Rattle.bits.specs.Words.{flagOf}
@@ -16,7 +15,7 @@ use Rattle.filter.specs.Filters.{lineFiltered, samplesIn, ticked}
 use Rattle.filter.proofs.Held.{Held, held-none, held-tick, held-level, tick-period, tick-sound}
 use Rattle.frame.specs.Layout.{frameBits, readingOf}
 use Rattle.controller.specs.declared.phase.Phase.{Phase}
-use Rattle.controller.specs.declared.phase.Phase.the-variants.{Waiting, Clocking, Recovering}
+use Rattle.controller.specs.declared.phase.Phase.the-variants.{Clocking, Recovering}
 use Rattle.controller.specs.declared.registers.Ssi.{Ssi}
 use Rattle.controller.specs.Phase.{busyIn, clockOf, phaseTicked, pushed}
 use Rattle.controller.specs.Registers.{started, ticked as ssiTicked}
@@ -24,7 +23,7 @@ use Rattle.controller.proofs.Steps.{transmission, waits, falls-first, falls, ri
 use Rattle.sensor.specs.declared.constants.Constants.{Constants}
 use Rattle.sensor.specs.declared.phase.Phase.{Phase as Sensing}
 use Rattle.sensor.specs.declared.phase.Phase.the-variants.{Idle, Sending}
-use Rattle.sensor.specs.Model.{frameLevel, frameOf, nextPhase, phaseLevel}
+use Rattle.sensor.specs.Model.{frameOf, nextPhase, phaseLevel}
 
 -- the number of bits of the sensor's frames
 abbrev pub bitsOf : Constants → ℕ

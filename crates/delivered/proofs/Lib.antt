@@ -6,3 +6,4 @@ pub mod Starts
 pub mod Aloft
 pub mod Shown
 pub mod Stands
+pub mod Computed

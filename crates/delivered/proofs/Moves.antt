@@ -3,12 +3,12 @@ use mathlib.Core.Path.{_≡_, refl, sym, ap, subst, _∙_}
 use mathlib.Core.Bool.{Bool, true, false, cond}
 use mathlib.Core.List.{List}
 use mathlib.Core.Logic.{_⊎_, inl, inr}
-use Prim.Native.Nat.{ℕ, _+_, _-_, _*_, _/_, _%_, _<_, _≤_}
+use Prim.Native.Nat.{ℕ, _<_}
 use native.Mathlib.Omega.{arith}
 use lib.Dec.{eqb, leb, ltb}
 use lib.ListN.{length, getD, set}
 use Rattle.std.proofs.shelf.Lists.{getD-set-other, getD-set-same, length-set}
-use Rattle.std.proofs.shelf.Tests.{and-parts, cases-eq, leb-true, ltb-true}
+use Rattle.std.proofs.shelf.Tests.{and-parts, cases-eq, leb-true}
 use Rattle.std.specs.declared.result.Result.{Result}
 use Rattle.std.specs.declared.result.Result.the-variants.{Ok, Err}
 use Rattle.refusal.specs.declared.Refusal.{Refusal}
@@ -18,18 +18,17 @@ use Rattle.channel.specs.declared.act.Act.the-variants.{ClearSnapshot, Load, Sn
 use Rattle.channel.specs.declared.channel.Channel.{Channel}
 use Rattle.filter.specs.Debounces.{debounceOf, periodOf}
 use Rattle.channel.specs.Lines.{linesRestarted}
-use Rattle.channel.specs.Registers.{registerTaken, registerWritten}
+use Rattle.channel.specs.Registers.{registerWritten}
 use Rattle.channel.specs.Shares.{performed}
-use Rattle.channel.specs.Snapshots.{transmits}
 use Rattle.table.specs.Tables.{acted}
 use Rattle.table.proofs.Loops.{getD-changed, length-changed}
 use Rattle.card.specs.Calls.{Card, afterRead, afterWrite, given, readDone, writeDone}
-use Rattle.card.specs.Records.{blank, channelOf, withChannel, withShared, withTable}
+use Rattle.card.specs.Records.{blank, channelOf, withChannel, withTable}
 use Rattle.card.specs.Registers.{channelAt, inChannels, inSnapshots, offsetChecked, placeAt, registerRead, registerSet, settingChecked, snapshotAt}
 use Rattle.card.specs.SharedRegisters.{sharedWritten}
 use Rattle.card.specs.Snapshots.{commanded, snapshotsCleared, triggered, triggeredIf}
 use Rattle.delivered.specs.Delivery.{debouncingAt}
-use Rattle.delivered.proofs.Changes.{Change, kept, asked, ended, restarted, none, act-change, clear-keeps, load-keeps, read-change, write-change}
+use Rattle.delivered.proofs.Changes.{Change, Filtering, filtering, kept, asked, ended, restarted, none, act-change, clear-keeps, load-keeps, read-change, write-change}
 
 -- the table keeps its length, and the record of channel k changes as above
 pub record Moves (R : Type 0) (k : ℕ) (c d : Card) : Type 0 where
@@ -64,17 +63,21 @@ acts {R} {k} {c} {d} a l e q =
       change = subst (Change R (channelOf k c)) (sym (ap (λ (t : List Channel). getD t k blank) q ∙ acted-at a k (c .channels) l e)) (act-change a k (channelOf k c));
     }
 
+-- the filters after a write v of the Debouncing Register, from those before it
+abbrev restartedBy : ℕ → Filtering → Filtering
+restartedBy v f = record { lines = linesRestarted (periodOf (debounceOf v)) (f .lines); debounce = debounceOf v }
+
 -- a change that follows one which keeps mode and filters
-after-kept : {R : Type 0} (c d e : Channel) → d .mode ≡ c .mode → d .lines ≡ c .lines → Change R d e → Change R c e
+after-kept : {R : Type 0} (c d e : Channel) → d .mode ≡ c .mode → filtering d ≡ filtering c → Change R d e → Change R c e
 after-kept c d e m l (kept n f) = kept (n ∙ m) (f ∙ l)
 after-kept c d e m l (asked i p a n o f) = asked i p (sym m ∙ a) n o (f ∙ l)
 after-kept c d e m l (ended n f) = ended n (f ∙ l)
-after-kept c d e m l (restarted r v n f) = restarted r v (n ∙ m) (f ∙ ap (linesRestarted (periodOf (debounceOf v))) l)
+after-kept c d e m l (restarted r v n f) = restarted r v (n ∙ m) (f ∙ ap (restartedBy v) l)
 
 record Keeps (k : ℕ) (c d : Card) : Type 0 where
   eight : length (d .channels) ≡ length (c .channels)
   mode : channelOf k d .mode ≡ channelOf k c .mode
-  lines : channelOf k d .lines ≡ channelOf k c .lines
+  lines : filtering (channelOf k d) ≡ filtering (channelOf k c)
 
 loads-keep : (w k : ℕ) (c : Card) → k < 8 → length (c .channels) ≡ 8 → Keeps k c (withTable (acted (Load w) (c .channels)) c)
 loads-keep w k c l e =
@@ -82,7 +85,7 @@ loads-keep w k c l e =
     record {
       eight = acted-length (Load w) (c .channels);
       mode = ap (λ (x : Channel). x .mode) at ∙ load-keeps w k (channelOf k c) .0;
-      lines = ap (λ (x : Channel). x .lines) at ∙ load-keeps w k (channelOf k c) .1;
+      lines = ap filtering at ∙ load-keeps w k (channelOf k c) .1;
     }
 
 clear-keep : (one : Bool) (k : ℕ) (c : Card) → k < 8 → length (c .channels) ≡ 8 → Keeps k c (snapshotsCleared one c)
@@ -92,7 +95,7 @@ clear-keep true k c l e =
     record {
       eight = acted-length ClearSnapshot (c .channels);
       mode = ap (λ (x : Channel). x .mode) at ∙ clear-keeps k (channelOf k c) .0;
-      lines = ap (λ (x : Channel). x .lines) at ∙ clear-keeps k (channelOf k c) .1;
+      lines = ap filtering at ∙ clear-keeps k (channelOf k c) .1;
     }
 
 keeps-then : {R : Type 0} {k : ℕ} {c d e : Card} → Keeps k c d → Moves R k d e → Moves R k c e

@@ -1,7 +1,7 @@
 -- What a host reads of one channel: BSY and the Data Register.
-use mathlib.Core.Path.{_≡_, refl, sym, ap, _∙_}
-use mathlib.Core.Bool.{Bool, true, false, cond, not, _&&_, _||_}
-use Prim.Native.Nat.{ℕ, _+_, _-_, _*_, _/_, _%_, _^_, _<_, _≤_}
+use mathlib.Core.Path.{_≡_, refl, ap, _∙_}
+use mathlib.Core.Bool.{Bool, true, false}
+use Prim.Native.Nat.{ℕ, _+_, _-_, _*_, _/_, _%_, _^_, _<_}
 use native.Mathlib.Omega.{arith}
 use native.Mathlib.Nat.{div-one}
 use lib.Dec.{eqb, leb, ltb}
@@ -17,7 +17,6 @@ use Rattle.channel.specs.Registers.{dataShown, registerShown, ssiStatusShownAs}
 use Rattle.channel.specs.Snapshots.{transmits, transmitsAs}
 use Rattle.card.specs.Calls.{Card, readDone, valueOf}
 use Rattle.card.specs.Records.{channelOf}
-use Rattle.card.specs.Registers.{channelAt, placeAt}
 use Rattle.rig.specs.Benches.{Bench}
 use Rattle.delivered.specs.Delivery.{bitRead, busy, dataAt, readAt, statusAt}
 

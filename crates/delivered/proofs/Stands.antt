@@ -3,15 +3,14 @@ use mathlib.Core.Path.{_≡_, refl, sym, ap, subst, _∙_}
 use mathlib.Core.Bool.{Bool, true, false, cond}
 use mathlib.Core.List.{List, [], _∷_}
 use mathlib.Core.Logic.{_⊎_, inl, inr}
-use Prim.Native.Nat.{ℕ, _+_, _*_, _<_, _≤_}
+use Prim.Native.Nat.{ℕ, _+_, _*_, _<_}
 use native.Mathlib.Omega.{arith}
-use lib.Dec.{eqb}
-use lib.ListN.{length, getD, replicate}
+use lib.ListN.{length}
 use Rattle.std.proofs.shelf.Lists.{getD-replicate}
 use Rattle.std.proofs.shelf.Tests.{cases-eq}
 use Rattle.std.specs.Options.{mapped, valueOr, Cases}
 use Rattle.std.specs.declared.option.Option.{Option}
-use Rattle.std.specs.declared.option.Option.the-variants.{Some, None}
+use Rattle.std.specs.declared.option.Option.the-variants.{Some}
 use Rattle.std.specs.declared.result.Result.the-variants.{Ok}
 use Rattle.bits.specs.Words.{flagOf}
 use Rattle.counter_count.specs.declared.levels.Levels.{Levels}
@@ -19,16 +18,15 @@ use Rattle.controller.specs.declared.control.SsiControl.{SsiControl}
 use Rattle.controller.specs.Control.{formatOf}
 use Rattle.controller.specs.Registers.{halfPeriod}
 use Rattle.sensor.specs.Model.{Model, Sound, advanced, frameOf, levelOf, turned}
-use Rattle.field.specs.Wiring.{FieldModel, Sounds, atChannel, levelAt}
+use Rattle.field.specs.Wiring.{FieldModel, Sounds, atChannel}
 use Rattle.field.proofs.FieldLaws.{acts-at, acts-elsewhere, turned-sounds}
 use Rattle.rig_parts.specs.Clocks.{clocked}
-use Rattle.rig_parts.specs.Lines.{composed}
 use Rattle.rig_parts.proofs.ClockLaws.{clocked-at, clocked-sounds}
 use Rattle.rig_parts.proofs.LineLaws.{composed-in1}
 use Rattle.channel.specs.declared.channel.Channel.{Channel}
 use Rattle.channel.specs.declared.mode.Mode.the-variants.{Ssi as Reading}
 use Rattle.channel.specs.Shares.{clockLevel}
-use Rattle.channel.specs.Snapshots.{transmits, transmitsAs, triggered}
+use Rattle.channel.specs.Snapshots.{transmits, triggered}
 use Rattle.channel.specs.Ticks.{newChannel}
 use Rattle.table.specs.Tables.{levelsAt}
 use Rattle.card.specs.Calls.{Card, powerOn, tickDone, tickLevels}
@@ -39,7 +37,7 @@ use Rattle.rig.specs.declared.calls.RigCall.{RigCall}
 use Rattle.rig.specs.declared.calls.RigCall.the-variants.{Card as OnCard, Tick, Turn}
 use Rattle.rig.specs.Benches.{Bench, linesOn, newBench, runOn, stepOn}
 use Rattle.delivered.specs.Delivery.{Allowed, Delivers, Fits, NoTick, Pending, UnderWay, busy, settingsOf}
-use Rattle.delivered.proofs.Changes.{Change, Timed, timed-change}
+use Rattle.delivered.proofs.Changes.{Timed, timed-change}
 use Rattle.delivered.proofs.Moves.{Moves, read-moves, write-moves}
 use Rattle.delivered.proofs.Ticks.{TickAt, clock-answer, ownTick, tick-at, timed-card-tick}
 use Rattle.delivered.proofs.Starts.{Started, change-starts, contrary, firstPhase, tick-then}
@@ -54,7 +52,7 @@ record Sane (b : Bench) : Type 0 where
 
 sane-new : (m : FieldModel) → Sounds m → Sane (newBench m)
 unfolding powerOn
-sane-new m s = record { eight = refl; timed = λ k l. subst Timed (sym (getD-replicate 8 k newChannel blank l)) (omega arith); sounds = s }
+sane-new m s = record { eight = refl; timed = λ k l. subst Timed (sym (getD-replicate 8 k newChannel blank l)) (omega arith, refl); sounds = s }
 
 sane-moves : {R : ℕ → Type 0} (b : Bench) (d : Card) → Sane b → ((k : ℕ) → k < 8 → Moves (R k) k (b .card) d) → Sane (record { card = d; field = b .field })
 sane-moves b d s f =

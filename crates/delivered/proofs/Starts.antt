@@ -1,7 +1,7 @@
 -- An accepted request leaves the controller before the tick in which the clock first falls, with the settings of the channel.
 use mathlib.Core.Path.{_≡_, refl, sym, ap, subst, _∙_}
 use mathlib.Core.Bool.{Bool, true, false, cond}
-use Prim.Native.Nat.{ℕ, _-_, _<_}
+use Prim.Native.Nat.{ℕ}
 use lib.Dec.{eqb, ltb}
 use Rattle.std.proofs.shelf.Tests.{cond-both, true≢false}
 use Rattle.counter_count.specs.declared.levels.Levels.{Levels}
@@ -21,9 +21,9 @@ use Rattle.channel.specs.declared.mode.Mode.{Mode}
 use Rattle.channel.specs.declared.mode.Mode.the-variants.{Off, Counter as Counting, Ssi as Reading}
 use Rattle.channel.specs.Records.{withMode, withSsi}
 use Rattle.channel.specs.Snapshots.{transmits, transmitsAs, triggered}
-use Rattle.channel.specs.Ticks.{channelTicked, observed, timerRequested, timerRequestedAs, transmitted}
+use Rattle.channel.specs.Ticks.{channelTicked, observed, timerRequestedAs, transmitted}
 use Rattle.delivered.proofs.Changes.{Change, kept, asked, ended, restarted, none, request-change, trigger-change}
-use Rattle.delivered.proofs.Ticks.{known, finishes, seen, Stays, trigger-stays}
+use Rattle.delivered.proofs.Ticks.{known, finishes, seen, trigger-stays}
 
 -- the phase that an accepted request leaves
 abbrev pub firstPhase : SsiControl → Phase

@@ -1,5 +1,5 @@
 -- A tick of the card, seen at one channel.
-use mathlib.Core.Path.{_≡_, refl, sym, ap, ap₂, subst, _∙_}
+use mathlib.Core.Path.{_≡_, refl, sym, ap, subst, _∙_}
 use mathlib.Core.Bool.{Bool, true, false, cond, _&&_}
 use mathlib.Core.List.{List, [], _∷_}
 use Prim.Native.Nat.{ℕ, zero, suc, _+_, _*_, _/_, _%_, _^_, _<_, _≤_}
@@ -13,7 +13,7 @@ use Rattle.std.specs.declared.option.Option.{Option}
 use Rattle.std.specs.declared.option.Option.the-variants.{Some, None}
 use Rattle.bits.specs.Words.{bitAt, flagOf}
 use Rattle.filter.specs.Filters.{lineFiltered, samplesIn}
-use Rattle.filter.proofs.Held.{tick-sound}
+use Rattle.filter.proofs.Held.{tick-period, tick-sound}
 use Rattle.counter_count.specs.declared.levels.Levels.{Levels}
 use Rattle.controller.specs.declared.control.Start.{Start}
 use Rattle.controller.specs.declared.control.Start.the-variants.{Request, Timer}
@@ -22,27 +22,26 @@ use Rattle.controller.specs.declared.phase.Phase.{Phase}
 use Rattle.controller.specs.declared.phase.Phase.the-variants.{Waiting, Clocking, Recovering}
 use Rattle.controller.specs.declared.registers.Completed.{Completed}
 use Rattle.controller.specs.declared.registers.Ssi.{Ssi}
-use Rattle.controller.specs.Phase.{activeIn, busyIn, phaseTicked}
+use Rattle.controller.specs.Phase.{activeIn, phaseTicked}
 use Rattle.controller.specs.Registers.{completion, phaseRequested, requested as ssiRequested, ticked as ssiTicked}
 use Rattle.channel.specs.declared.act.Act.the-variants.{Snapshot}
 use Rattle.channel.specs.declared.act.Bit.the-variants.{Clock}
 use Rattle.channel.specs.declared.act.Share.the-variants.{Single}
 use Rattle.channel.specs.declared.channel.Channel.{Channel}
-use Rattle.channel.specs.declared.lines.Lines.{Lines}
 use Rattle.channel.specs.declared.mode.Mode.{Mode}
 use Rattle.channel.specs.declared.mode.Mode.the-variants.{Off, Counter as Counting, Ssi as Reading}
 use Rattle.channel.specs.Lines.{levelsOf, linesTicked}
 use Rattle.channel.specs.Records.{withMode, withSsi}
 use Rattle.channel.specs.Shares.{bitOf, clockLevel, performed, shareOf}
-use Rattle.channel.specs.Snapshots.{snapped, snappedAs, ssiSnappedAs, triggered}
-use Rattle.channel.specs.Ticks.{channelTicked, finished, observed, requestedAs, timerRequested, timerRequestedAs, transmitted, transmittedAs, waits, worked, workedAs}
+use Rattle.channel.specs.Snapshots.{snapped, ssiSnappedAs, triggered}
+use Rattle.channel.specs.Ticks.{channelTicked, finished, observed, requestedAs, timerRequested, timerRequestedAs, transmitted, transmittedAs, waits, workedAs}
 use Rattle.table.specs.Tables.{gathered, levelsAt, tableTicked, tickAt, wordOf}
 use Rattle.table.proofs.Loops.{getD-changed, length-changed}
 use Rattle.card.specs.Calls.{Card, channelsTicked, tickDone, tickLevels}
 use Rattle.card.specs.Records.{blank, channelOf}
 use Rattle.card.specs.Shared.{expiry}
 use Rattle.card.specs.Snapshots.{timerTriggered, triggered as allTriggered}
-use Rattle.delivered.proofs.Changes.{Change, Timed, trigger-change, timed-change}
+use Rattle.delivered.proofs.Changes.{Filtering, Paced, Timed, filtering, trigger-change, timed-change}
 use Rattle.delivered.proofs.Moves.{acted-at, acted-length}
 
 -- the level of the data line after its filter
@@ -62,12 +61,12 @@ known h m e = ap (λ n. withMode n h) e
 
 pub record Finished (d e : Channel) : Type 0 where
   pub mode : e .mode ≡ d .mode
-  pub lines : e .lines ≡ d .lines
+  pub filters : filtering e ≡ filtering d
   pub ssi : e .ssi ≡ d .ssi
 
 pub finishes : (o : Option Completed) (d : Channel) → Finished d (finished o d)
-finishes None d = record { mode = refl; lines = refl; ssi = refl }
-finishes (Some w) d = record { mode = refl; lines = refl; ssi = refl }
+finishes None d = record { mode = refl; filters = refl; ssi = refl }
+finishes (Some w) d = record { mode = refl; filters = refl; ssi = refl }
 
 -- a request during a transmission
 asks-in-vain : (expired : Bool) (s : Start) (t : Transmission) (c : Channel)
@@ -88,7 +87,7 @@ transmits-known x i expired t h =
     let d = withMode (Reading (phaseTicked y (Clocking t))) (withSsi (ssiTicked y (Clocking t) (a .0)) (withMode (Reading (Clocking t)) o)) in
     let f = finishes (completion y (Clocking t)) d in
     let T : Channel → Type 0 = λ c. Transmits x (Clocking t) g (transmitted y c) in
-    subst T (sym (a .1)) (record { lines = f .lines; mode = f .mode; before = a .0; ssi = f .ssi })
+    subst T (sym (a .1)) (record { lines = ap (λ (g : Filtering). g .lines) (f .filters); mode = f .mode; before = a .0; ssi = f .ssi })
 
 pub transmits-on : (x : Levels) (i expired : Bool) (t : Transmission) (h : Channel) → h .mode ≡ Reading (Clocking t)
     → Transmits x (Clocking t) h (channelTicked x i expired h)
@@ -118,37 +117,36 @@ trigger-stays p h e a =
     subst (λ c. Stays p c (triggered c)) (sym (known h (Reading p) e)) (trigger-known (h .snapshot .enabled) p h a)
 
 -- the filters in a tick, whatever the channel does
-requested-lines : (m : Mode) (c : Channel) → requestedAs m c .lines ≡ c .lines
+requested-lines : (m : Mode) (c : Channel) → filtering (requestedAs m c) ≡ filtering c
 requested-lines (Off z) c = refl
 requested-lines Counting c = refl
 requested-lines (Reading p) c = refl
 
-timer-lines : (expired : Bool) (s : Start) (c : Channel) → cond expired (timerRequestedAs s c) c .lines ≡ c .lines
+timer-lines : (expired : Bool) (s : Start) (c : Channel) → filtering (cond expired (timerRequestedAs s c) c) ≡ filtering c
 timer-lines false s c = refl
 timer-lines true Request c = refl
 timer-lines true Timer c = requested-lines (c .mode) c
 
-transmitted-lines : (m : Mode) (y : Bool) (c : Channel) → transmittedAs m y c .lines ≡ c .lines
+transmitted-lines : (m : Mode) (y : Bool) (c : Channel) → filtering (transmittedAs m y c) ≡ filtering c
 transmitted-lines (Off z) y c = refl
 transmitted-lines Counting y c = refl
-transmitted-lines (Reading p) y c = finishes (completion y p) _ .lines
+transmitted-lines (Reading p) y c = finishes (completion y p) _ .filters
 
-worked-lines : (m : Mode) (x y : Levels) (expired : Bool) (c : Channel) → workedAs m x y expired c .lines ≡ c .lines
+worked-lines : (m : Mode) (x y : Levels) (expired : Bool) (c : Channel) → filtering (workedAs m x y expired c) ≡ filtering c
 worked-lines (Off z) x y expired c = refl
 worked-lines Counting x y expired c = refl
 worked-lines (Reading p) x y expired c =
     let t = timer-lines expired (c .ssi .control .start) c in
-    cond-both (waits c) (timerRequested expired c) (transmitted (y .b) (timerRequested expired c)) (λ (d : Channel). d .lines ≡ c .lines)
+    cond-both (waits c) (timerRequested expired c) (transmitted (y .b) (timerRequested expired c)) (λ (d : Channel). filtering d ≡ filtering c)
     (λ _. t) (λ _. transmitted-lines (timerRequested expired c .mode) (y .b) (timerRequested expired c) ∙ t)
 
-pub tick-lines : (x : Levels) (i expired : Bool) (h : Channel) → channelTicked x i expired h .lines ≡ linesTicked x (h .lines)
+pub tick-lines : (x : Levels) (i expired : Bool) (h : Channel) → filtering (channelTicked x i expired h) ≡ record { lines = linesTicked x (h .lines); debounce = h .debounce }
 unfolding channelTicked
 tick-lines x i expired h = worked-lines (h .mode) (levelsOf (h .lines)) (levelsOf (linesTicked x (h .lines))) expired (observed x i h)
 
 pub timed-tick : (x : Levels) (i expired : Bool) (h : Channel) → Timed h → Timed (channelTicked x i expired h)
 timed-tick x i expired h s =
-    let e = tick-lines x i expired h in
-    omega (arith, tick-sound (h .lines .timing) s, ap (λ (l : Lines). l .timing .phase) e, ap (λ (l : Lines). l .timing .period) e)
+    subst Paced (sym (tick-lines x i expired h)) (tick-sound (h .lines .timing) (s .0), tick-period (h .lines .timing) (s .0) ∙ s .1)
 
 -- channel k's own part of the table's tick
 abbrev pub ownTick : ℕ → ℕ → ℕ → Card → Channel

@@ -8,6 +8,7 @@ use Rattle.std.specs.declared.result.Result.{Result}
 use Rattle.std.specs.declared.result.Result.the-variants.{Ok, Err}
 use Rattle.refusal.specs.declared.Refusal.{Refusal}
 use Rattle.bits.specs.Words.{flagOf}
+use Rattle.filter.specs.Debounces.{periodOf}
 use Rattle.controller.specs.declared.control.SsiControl.{SsiControl}
 use Rattle.controller.specs.Control.{formatOf}
 use Rattle.controller.specs.Registers.{halfPeriod}
@@ -48,9 +49,9 @@ busy k b = bitRead (readAt b (statusAt k)) 0
 abbrev pub settingsOf : ℕ → Bench → SsiControl
 settingsOf k b = channelOf k (b .card) .ssi .control
 
--- the period of channel k's line filters
+-- the period of channel k's line filters, by its Debouncing Register
 abbrev pub periodOn : ℕ → Bench → ℕ
-periodOn k b = channelOf k (b .card) .lines .timing .period
+periodOn k b = periodOf (channelOf k (b .card) .debounce)
 
 -- a call that is no tick
 abbrev pub NoTick : RigCall → Type 0
