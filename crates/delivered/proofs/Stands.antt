@@ -36,7 +36,7 @@ use Rattle.runs.specs.declared.Call.the-variants.{Tick as CardTick, Read, Write
 use Rattle.rig.specs.declared.calls.RigCall.{RigCall}
 use Rattle.rig.specs.declared.calls.RigCall.the-variants.{Card as OnCard, Tick, Turn}
 use Rattle.rig.specs.Benches.{Bench, linesOn, newBench, runOn, stepOn}
-use Rattle.delivered.specs.Delivery.{Allowed, Delivers, Fits, NoTick, Pending, UnderWay, busy, settingsOf}
+use Rattle.delivered.specs.Delivery.{Allowed, Delivers, Fits, NoTick, Pending, UnderWay, askedOn, begunOn, busy, endedOn, nearlyOn, quietOn, readyOn, settingsOf}
 use Rattle.delivered.proofs.Changes.{Timed, timed-change}
 use Rattle.delivered.proofs.Moves.{Moves, read-moves, write-moves}
 use Rattle.delivered.proofs.Ticks.{TickAt, clock-answer, ownTick, tick-at, timed-card-tick}
@@ -202,21 +202,19 @@ first-tick k lines inputs c b s l g m f =
     (subst (λ (h : Channel). Aloft F (s .position) h (Some (advanced s clk))) (sym (t .is)) first)
 
 pub delivers : Delivers
-delivers k l m sounds xs x zs ys l₁ i₁ l₂ i₂ s quiet pending fits under over =
-    let b₀ = runOn (newBench m) xs in
-    let g₀ : Sane b₀ = sane-run xs (newBench m) (sane-new m sounds) in
-    let b₁ = stepOn b₀ x in
-    let g₁ : Sane b₁ = sane-step b₀ x g₀ in
-    let asked : Started (own k b₁) = starts k b₀ x l g₀ (transmits-at k b₀ false l quiet) (transmits-at k b₁ true l (pending-busy k b₁ zs pending)) in
-    let b₂ = runOn b₁ zs in
-    let g₂ : Sane b₂ = sane-run zs b₁ g₁ in
-    let b₃ = stepOn b₂ (Tick l₁ i₁) in
-    let g₃ : Sane b₃ = sane-step b₂ (Tick l₁ i₁) g₂ in
-    let first = first-tick k l₁ i₁ (settingsOf k b₁) b₂ s l g₂ (pending-run k zs b₁ l g₁ pending ∙ asked) fits in
-    let b₄ = runOn b₃ ys in
-    let g₄ : Sane b₄ = sane-run ys b₃ g₃ in
+delivers k l m sounds t s c =
     let F = frameOf (s .constants) (s .position) in
-    let a : AloftOn k F (s .position) b₄ = under-run k F (s .position) ys b₃ l g₃ under first in
-    let b₅ = stepOn b₄ (Tick l₂ i₂) in
-    let d : Landed (s .position) (own k b₅) = last-tick k l₂ i₂ F (s .position) b₄ l g₄ a (transmits-at k b₅ false l over) in
-    data-is k b₅ l ∙ ap Ok (d .shows)
+    let quiet : Sane (quietOn m t) = sane-run (t .before) (newBench m) (sane-new m sounds) in
+    let asked : Sane (askedOn m t) = sane-step (quietOn m t) (t .request) quiet in
+    let ready : Sane (readyOn m t) = sane-run (t .pending) (askedOn m t) asked in
+    let begun : Sane (begunOn m t) = sane-step (readyOn m t) (Tick (t .«first_lines») (t .«first_inputs»)) ready in
+    let nearly : Sane (nearlyOn m t) = sane-run (t .meanwhile) (begunOn m t) begun in
+    let started : Started (own k (askedOn m t)) =
+    starts k (quietOn m t) (t .request) l quiet (transmits-at k (quietOn m t) false l (c .quiet))
+    (transmits-at k (askedOn m t) true l (pending-busy k (askedOn m t) (t .pending) (c .accepted))) in
+    let first : AloftOn k F (s .position) (begunOn m t) =
+    first-tick k (t .«first_lines») (t .«first_inputs») (settingsOf k (askedOn m t)) (readyOn m t) s l ready (pending-run k (t .pending) (askedOn m t) l asked (c .accepted) ∙ started) (c .fits) in
+    let aloft : AloftOn k F (s .position) (nearlyOn m t) = under-run k F (s .position) (t .meanwhile) (begunOn m t) l begun (c .underway) first in
+    let landed : Landed (s .position) (own k (endedOn m t)) =
+    last-tick k (t .«last_lines») (t .«last_inputs») F (s .position) (nearlyOn m t) l nearly aloft (transmits-at k (endedOn m t) false l (c .over)) in
+    data-is k (endedOn m t) l ∙ ap Ok (landed .shows)

@@ -79,8 +79,8 @@ abbrev pub UnderWay : ℕ → Bench → List RigCall → Type 0
 UnderWay k b [] = busy k b ≡ true
 UnderWay k b (y ∷ ys) = (busy k b ≡ true) × Allowed k y × UnderWay k (stepOn b y) ys
 
--- channel k has the sensor s, idle with its clock last seen high; the settings c fit it, and half a clock period is at least three
--- periods of the line filters
+-- channel k has the sensor s, idle with its clock last seen high; the settings c fit it (the same data
+-- bits, extra bits, parity and code), and half a clock period is at least three periods of the line filters
 pub record Fits (k : ℕ) (c : SsiControl) (b : Bench) (s : Model) : Type 0 where
   pub plugged : b .field k ≡ Some s
   pub idle : s .phase ≡ Idle
@@ -88,15 +88,50 @@ pub record Fits (k : ℕ) (c : SsiControl) (b : Bench) (s : Model) : Type 0 wher
   pub format : formatOf c ≡ s .constants .format
   pub slow : 3 * periodOn k b ≤ halfPeriod c
 
--- A request is accepted by the call x: BSY was 0 before it and is 1 after it. Then come calls zs without a tick, the rig tick in
--- which the clock first falls, calls ys, and a rig tick after which BSY is 0 again. A read of the Data Register then answers the position
--- that the sensor had before the clock first fell.
+-- the calls around one transmission, from power-on: the request among them, calls before the clock falls, the rig tick in which it
+-- first falls, calls meanwhile, and a last rig tick
+pub record Course : Type 0 where
+  pub before : List RigCall
+  pub request : RigCall
+  pub pending : List RigCall
+  pub «first_lines» : ℕ
+  pub «first_inputs» : ℕ
+  pub meanwhile : List RigCall
+  pub «last_lines» : ℕ
+  pub «last_inputs» : ℕ
+
+-- the bench before the request and after it
+abbrev pub quietOn : FieldModel → Course → Bench
+quietOn m t = runOn (newBench m) (t .before)
+
+abbrev pub askedOn : FieldModel → Course → Bench
+askedOn m t = stepOn (quietOn m t) (t .request)
+
+-- before the clock first falls and after it
+abbrev pub readyOn : FieldModel → Course → Bench
+readyOn m t = runOn (askedOn m t) (t .pending)
+
+abbrev pub begunOn : FieldModel → Course → Bench
+begunOn m t = stepOn (readyOn m t) (Tick (t .«first_lines») (t .«first_inputs»))
+
+-- before the last rig tick and after it
+abbrev pub nearlyOn : FieldModel → Course → Bench
+nearlyOn m t = runOn (begunOn m t) (t .meanwhile)
+
+abbrev pub endedOn : FieldModel → Course → Bench
+endedOn m t = stepOn (nearlyOn m t) (Tick (t .«last_lines») (t .«last_inputs»))
+
+-- a transmission of channel k with the sensor s: a request is accepted, as BSY is 0 before it and 1 after it; the settings that it
+-- takes fit; BSY stays 1 until the last rig tick and is 0 after it
+pub record Completes (k : ℕ) (m : FieldModel) (t : Course) (s : Model) : Type 0 where
+  pub quiet : busy k (quietOn m t) ≡ false
+  pub accepted : Pending k (askedOn m t) (t .pending)
+  pub fits : Fits k (settingsOf k (askedOn m t)) (readyOn m t) s
+  pub underway : UnderWay k (begunOn m t) (t .meanwhile)
+  pub over : busy k (endedOn m t) ≡ false
+
+-- a read of the Data Register then answers the position that the sensor had before the clock first fell
 abbrev pub Delivers : Type 0
 Delivers =
-    (k : ℕ) → k < 8 → (m : FieldModel) → Sounds m → (xs : List RigCall) (x : RigCall) (zs ys : List RigCall) (l₁ i₁ l₂ i₂ : ℕ) (s : Model)
-    → busy k (runOn (newBench m) xs) ≡ false
-    → Pending k (stepOn (runOn (newBench m) xs) x) zs
-    → Fits k (settingsOf k (stepOn (runOn (newBench m) xs) x)) (runOn (stepOn (runOn (newBench m) xs) x) zs) s
-    → UnderWay k (stepOn (runOn (stepOn (runOn (newBench m) xs) x) zs) (Tick l₁ i₁)) ys
-    → busy k (stepOn (runOn (stepOn (runOn (stepOn (runOn (newBench m) xs) x) zs) (Tick l₁ i₁)) ys) (Tick l₂ i₂)) ≡ false
-    → readAt (stepOn (runOn (stepOn (runOn (stepOn (runOn (newBench m) xs) x) zs) (Tick l₁ i₁)) ys) (Tick l₂ i₂)) (dataAt k) ≡ Ok (s .position)
+    (k : ℕ) → k < 8 → (m : FieldModel) → Sounds m → (t : Course) (s : Model) → Completes k m t s
+    → readAt (endedOn m t) (dataAt k) ≡ Ok (s .position)
