@@ -1,4 +1,6 @@
 //! Bits and bit fields of register words, taken out and put in.
+#![tactic(auto)]
+
 ghost use Rattle.std.specs.Prelude.{◌≡◌, ◌+◌, ◌*◌, ◌^◌, ◌<◌, ◌≤◌};
 ghost use Rattle.bits.specs.Words.{bit_at, field_at, word_field, word_flag};
 

@@ -1,4 +1,6 @@
 //! The card as its host sees it: power-on, ticks, register reads and writes.
+#![tactic(auto)]
+
 use channel::channel::Channel;
 
 mod access;

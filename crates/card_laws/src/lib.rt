@@ -1,4 +1,6 @@
 //! Laws on the card's accesses: what they leave alone.
+#![tactic(auto)]
+
 ghost use Rattle.card_laws.specs.Laws.{AltersOneRecord, QuietReads, RefusedLeaves};
 
 /// An access to a register of one channel alters no other channel and nothing that is shared; a refused one alters nothing.

@@ -1,4 +1,6 @@
 //! Runs the script on standard input on a new card, and prints what it writes and what stopped it.
+#![tactic(auto)]
+
 use script::{MAX_SCRIPT, refusal_line, run_script};
 use std::io;
 use std::io::{Read, Write};

@@ -1,4 +1,6 @@
 //! The law of counts over whole lists of calls on a card.
+#![tactic(auto)]
+
 ghost use Rattle.counts.specs.Laws.{Counts, CountsRead, Wraps};
 
 /// After every list of calls on a new card, each channel's count is its last load plus the signed steps since,

@@ -1,4 +1,6 @@
 //! The law of delivered positions: what a transmission over a rig puts into the Data Register.
+#![tactic(auto)]
+
 ghost use Rattle.delivered.specs.Delivery.{Delivers};
 ghost use Rattle.delivered.specs.Example.{DeliversTwo};
 

@@ -1,4 +1,6 @@
 //! Fields: the sensors at the channels of a card, and plugs that put a sensor over a field.
+#![tactic(auto)]
+
 pub mod empty;
 pub mod field;
 pub mod laws;

@@ -1,4 +1,5 @@
 //! Sensors clocked on a field of two plugs: frames, turns in their midst, recovery, and refusals.
+#![tactic(auto)]
 
 #[cfg(test)]
 mod tests {

@@ -1,4 +1,6 @@
 //! Why the card refuses an access, and the number that a host sees for it.
+#![tactic(auto)]
+
 ghost use Rattle.std.specs.Prelude.{◌≡◌};
 ghost use Rattle.refusal.specs.Codes.{code_of};
 

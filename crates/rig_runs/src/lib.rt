@@ -1,4 +1,6 @@
 //! Lists of calls on a new card beside a field, and the laws that hold over every such list.
+#![tactic(auto)]
+
 ghost use Rattle.std.specs.Prelude.{◌≡◌, ◌++◌, length, take, drop};
 ghost use Rattle.rig.specs.Benches.{answers_on, bench, new_bench, run_on};
 ghost use Rattle.delivered.specs.Delivery.{Delivers};

@@ -1,4 +1,6 @@
 //! Lists of calls on a card, one after the other, with every answer.
+#![tactic(auto)]
+
 ghost use Rattle.std.specs.Prelude.{◌≡◌};
 ghost use Rattle.runs.specs.Runs.{answer_to, step};
 

@@ -1,4 +1,6 @@
 //! Scripts of register accesses and ticks, run on a new card.
+#![tactic(auto)]
+
 mod export;
 mod output;
 mod refused;

@@ -1,4 +1,6 @@
 //! Laws on what scripts do, each the contract of a function.
+#![tactic(auto)]
+
 ghost use Rattle.script_laws.specs.Laws.{LinesReadBack, CommandsReadBack, AccessesPerformed, PrefixStands};
 
 /// Lines that are written one after the other, each with its byte 10, are read back; so is a last line without it.

@@ -1,4 +1,5 @@
 //! Scripts with what they answer and write: every code, their order, and the edges of each field.
+#![tactic(auto)]
 
 #[cfg(test)]
 mod tests {

@@ -1,4 +1,6 @@
 //! Position sensors with a synchronous serial line: what a sensor means, and the kinds that there are.
+#![tactic(auto)]
+
 pub mod constants;
 pub mod gray;
 pub mod gray_kind;

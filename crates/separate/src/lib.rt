@@ -1,4 +1,6 @@
 //! The channels are kept apart: what is done for others never shows in a channel's own answers.
+#![tactic(auto)]
+
 ghost use Rattle.separate.specs.Example.{AlikeForOne};
 ghost use Rattle.separate.specs.Separation.{Separate};
 

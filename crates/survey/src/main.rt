@@ -1,4 +1,6 @@
 //! A hall survey on a rig: a rail counted in quadrature, a turntable read by SSI, and a snapshot of both at each seat.
+#![tactic(auto)]
+
 use card::Card;
 use field::empty::EmptyField;
 use field::field::Field;

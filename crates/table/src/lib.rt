@@ -1,4 +1,6 @@
 //! The table of eight channels: what is done to each record in its turn, and words gathered from all.
+#![tactic(auto)]
+
 ghost use Rattle.std.specs.Prelude.{◌≡◌, ◌+◌, ◌*◌, ◌^◌, ◌<◌};
 ghost use Rattle.table.specs.Tables.{acted, gathered, line_levels_at, table_ticked};
 ghost use Rattle.bits.specs.Words.{word_flag};

@@ -1,4 +1,6 @@
 //! Laws of counting: the count is its last load plus the signed steps since, modulo 2^32.
+#![tactic(auto)]
+
 ghost use Rattle.tally.specs.Laws.{CountAlone, Figures, TallyStands};
 
 /// A tally of loads and steps stands for the count, whatever call comes next.

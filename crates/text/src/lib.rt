@@ -1,4 +1,6 @@
 //! The text of scripts: lines, fields, numbers, and what a line asks for.
+#![tactic(auto)]
+
 mod command;
 mod digits;
 mod fault;

@@ -1,4 +1,6 @@
 //! The interval timer.
+#![tactic(auto)]
+
 ghost use Rattle.std.specs.Prelude.{◌≡◌, ◌^◌, ◌<◌};
 ghost use Rattle.timer.specs.Timers.{base_of, base_ticks, base_word, word_of_control, control_written, expires, loaded, new_timer, period_ended, preload_written, reloads, same_base, ticked};
 ghost use Rattle.timer.specs.Intervals.{KeepsInterval};
