@@ -10,6 +10,6 @@ pub returns-in-Waiting-Some : goal.returns-in-Waiting-Some
 unfolding requested phase_requested
 returns-in-Waiting-Some c = search rules
 
-pub returns-in-default : goal.returns-in-default
+pub returns-in_default : goal.returns-in_default
 unfolding requested phase_requested
-returns-in-default c = search rules
+returns-in_default c = search rules

@@ -6,6 +6,6 @@ pub returns-in-Latch : goal.returns-in-Latch
 unfolding data_word
 returns-in-Latch c = search rules
 
-pub returns-in-default : goal.returns-in-default
+pub returns-in_default : goal.returns-in_default
 unfolding data_word
-returns-in-default c = search rules
+returns-in_default c = search rules

@@ -6,6 +6,6 @@ pub returns : goal.returns
 unfolding control_written control_answer
 returns c = search rules
 
-pub returns-in-err-control : goal.returns-in-err-control
+pub returns-in_err-control : goal.returns-in_err-control
 unfolding control_written control_answer
-returns-in-err-control c = search rules
+returns-in_err-control c = search rules

@@ -8,9 +8,9 @@ use Rattle.counter_control.proofs.control.Control.decode.Goals as goal
 pub returns : goal.returns
 unfolding decoded
 returns c =
-    let e : ◌≡◌ {A = Result Control Refusal} (Ok c.with-index.result) (decoded c.args.word) = search rules in
+    let e : ◌≡◌ {A = Result Control Refusal} (Ok c.with_index.result) (decoded c.args.word) = search rules in
     record { answer = e; kept = subst (λ r. Kept c.args.word r) (sym e) (kept c.args.word) }
 
-pub returns-in-err-index : goal.returns-in-err-index
+pub returns-in_err-index : goal.returns-in_err-index
 unfolding decoded
-returns-in-err-index c = search rules
+returns-in_err-index c = search rules

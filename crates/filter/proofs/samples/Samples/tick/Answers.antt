@@ -7,9 +7,9 @@ use Rattle.filter.proofs.samples.Samples.tick.Goals as goal
 pub returns-then-not-due : goal.returns-then-not-due
 returns-then-not-due c = record { after = search rules; settles = settles }
 
-pub returns-then-is-steady : goal.returns-then-is-steady
-returns-then-is-steady c =
-    let e : steady_at c.args.line c.args.self.now ≡ true = sym c.is-steady.ensures ∙ c.if-is-steady.true in
+pub returns-then-is_steady : goal.returns-then-is_steady
+returns-then-is_steady c =
+    let e : steady_at c.args.line c.args.self.now ≡ true = sym c.is_steady.ensures ∙ c.if-is_steady.true in
     record { after = steady_filtered c.args.due c.args.line c.args.self.now e; settles = settles }
 
 pub returns : goal.returns

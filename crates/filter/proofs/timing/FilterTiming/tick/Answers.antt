@@ -3,10 +3,10 @@ use Rattle.filter.specs.Filters.{timing_of}
 use Rattle.filter.proofs.Timings.{fit_due, fit_ticked, unfit_due, unfit_ticked}
 use Rattle.filter.proofs.timing.FilterTiming.tick.Goals as goal
 
-pub returns-in-default : goal.returns-in-default
-returns-in-default c = record {
-  answer = unfit_due c.args.self.now c.in-default.ensures;
-  after = c.new.ensures ∙ unfit_ticked c.args.self.now c.in-default.ensures;
+pub returns-in_default : goal.returns-in_default
+returns-in_default c = record {
+  answer = unfit_due c.args.self.now c.in_default.ensures;
+  after = c.new.ensures ∙ unfit_ticked c.args.self.now c.in_default.ensures;
 }
 
 pub returns : goal.returns

@@ -3,7 +3,7 @@ use Rattle.sensor.proofs.gray_kind.GraySensorSensor.advance.Goals as goal
 
 pub returns-then-starts : goal.returns-then-starts
 returns-then-starts c =
-    start_made _ _ _ _ _ _ _ _ _ _ c.starts.ensures c.if-starts.true c.start.ensures.constants c.start.ensures.phase c.start.ensures.clock c.from-gray.ensures
+    start_made _ _ _ _ _ _ _ _ _ _ c.starts.ensures c.if-starts.true c.start.ensures.constants c.start.ensures.phase c.start.ensures.clock c.from_gray.ensures
 
 pub returns-else-starts : goal.returns-else-starts
 returns-else-starts c =
