@@ -6,7 +6,7 @@ use Rattle.frame.specs.declared.format.Parity.{Parity}
 use Rattle.frame.specs.declared.format.Parity.TheVariants.{Absent, Even, Odd}
 use Rattle.frame.specs.declared.format.Format.{Format}
 use Rattle.controller.specs.Phase.{pushed, phase_ticked}
-use Rattle.controller.specs.Registers.{completion, completed_by, ticked, result, concluded}
+use Rattle.controller.specs.Registers.{completion, completed_by, ticked, completed_as, concluded}
 use Rattle.controller.specs.declared.phase.Transmission.{Transmission}
 use Rattle.controller.specs.declared.phase.Phase.TheVariants.{Waiting, Clocking, Recovering}
 use Rattle.controller.specs.declared.phase.Due.TheVariants.{Nothing, Toggle, Completion}
@@ -77,7 +77,7 @@ unfolding phase_ticked
 ends f H a bad x = rw (last_is f)
 
 pub ends_with : (f : Format) (H a : ℕ) (bad x : Bool) →
-    completion x (Clocking (transmission f H true (suc (frame_bits f)) 0 a bad)) ≡ Some (result x (transmission f H true (suc (frame_bits f)) 0 a bad))
+    completion x (Clocking (transmission f H true (suc (frame_bits f)) 0 a bad)) ≡ Some (completed_as x (transmission f H true (suc (frame_bits f)) 0 a bad))
 unfolding completion
 ends_with f H a bad x = rw (last_is f)
 

@@ -68,8 +68,8 @@ abbrev pub faulty : Bool → Transmission → Bool
 faulty x t = t.fault || x
 
 -- what completes, with the line at x
-abbrev pub result : Bool → Transmission → Completed
-result x t = record { word = (read_as t).number; fault = faulty x t }
+abbrev pub completed_as : Bool → Transmission → Completed
+completed_as x t = record { word = (read_as t).number; fault = faulty x t }
 
 -- and what it leaves in the registers
 abbrev pub concluded : Bool → Transmission → Ssi → Ssi
@@ -88,7 +88,7 @@ abbrev pub completed_by : Due → Bool → Phase → Option Completed
 completed_by Nothing x p = None
 completed_by Toggle x p = None
 completed_by Completion x Waiting = None
-completed_by Completion x (Clocking t) = Some (result x t)
+completed_by Completion x (Clocking t) = Some (completed_as x t)
 completed_by Completion x (Recovering left) = None
 completed_by Drop x p = None
 

@@ -1,7 +1,7 @@
 //! The SSI registers of a channel, and what requests, ticks and writes do to them.
 ghost use Rattle.std.specs.Prelude.{◌≡◌};
 ghost use Rattle.controller.specs.Phase.{phase_ticked};
-ghost use Rattle.controller.specs.Registers.{begun, completed_by, completion, concluded, control_answer, control_written, phase_requested, powered_on, recorded, requested, result, status_word, ticked};
+ghost use Rattle.controller.specs.Registers.{begun, completed_by, completion, concluded, control_answer, control_written, phase_requested, powered_on, recorded, requested, completed_as, status_word, ticked};
 
 use crate::control::{ParityCheck, SsiControl, Start};
 use crate::phase::{Due, Phase, Transmission};
@@ -41,7 +41,7 @@ pub struct Completed {
 impl SsiControl {
     /// A transmission with these settings, just before the tick in which the clock first falls.
     fn begin(&self) -> Option<Transmission>
-        ensures* { λ r. ⌜ r ≡ begun self.now ⌝ }
+        ensures { result ≡ begun self.now }
     {
         if self.rate == 0 {
             return None;
@@ -61,7 +61,7 @@ impl SsiControl {
 impl Ssi {
     /// The registers at power-on.
     pub fn power_on() -> Ssi
-        ensures* { λ r. ⌜ r ≡ powered_on ⌝ }
+        ensures { result ≡ powered_on }
     {
         Ssi {
             control: SsiControl {
@@ -85,8 +85,8 @@ impl Ssi {
 
     /// A write to the SSI Mode Control Register.
     pub fn write_control(&mut self, word: u32) -> Result<(), Refusal>
-        ensures* answer { λ r. ⌜ r ≡ control_answer word ⌝ }
-        ensures* after { λ _. ⌜ self.new ≡ control_written word self.old ⌝ }
+        ensures answer { result ≡ control_answer word }
+        ensures after { self.new ≡ control_written word self.old }
     {
         self.control = SsiControl::decode(word)?;
         Ok(())
@@ -94,8 +94,8 @@ impl Ssi {
 
     /// A request: starts a transmission unless the sensor is active or the clock rate is 0.
     pub fn request(&mut self, phase: &mut Phase)
-        ensures* phase { λ _. ⌜ phase.new ≡ phase_requested self.old phase.old ⌝ }
-        ensures* after { λ _. ⌜ self.new ≡ requested phase.old self.old ⌝ }
+        ensures phase { phase.new ≡ phase_requested self.old phase.old }
+        ensures after { self.new ≡ requested phase.old self.old }
     {
         match (&*phase, self.control.begin()) {
             (Phase::Waiting, None) => {}
@@ -109,8 +109,8 @@ impl Ssi {
 
     /// Puts what a frame says into the registers.
     fn conclude(&mut self, transmission: &Transmission, level: bool) -> Completed
-        ensures* answer { λ r. ⌜ r ≡ result level transmission.now ⌝ }
-        ensures* after { λ _. ⌜ self.new ≡ concluded level transmission.now self.old ⌝ }
+        ensures answer { result ≡ completed_as level transmission.now }
+        ensures after { self.new ≡ concluded level transmission.now self.old }
     {
         let reading = read_frame(transmission.format, transmission.word);
         let fault = transmission.fault || level;
@@ -127,8 +127,8 @@ impl Ssi {
 
     /// What is due concludes a transmission or leaves the registers.
     fn record(&mut self, phase: &Phase, due: Due, level: bool) -> Option<Completed>
-        ensures* answer { λ r. ⌜ r ≡ completed_by due level phase.now ⌝ }
-        ensures* after { λ _. ⌜ self.new ≡ recorded due level phase.now self.old ⌝ }
+        ensures answer { result ≡ completed_by due level phase.now }
+        ensures after { self.new ≡ recorded due level phase.now self.old }
     {
         match (phase, due) {
             (Phase::Clocking(transmission), Due::Completion) => Some(self.conclude(
@@ -141,9 +141,9 @@ impl Ssi {
 
     /// A tick with the filtered data line at `level`; answers a transmission that completes.
     pub fn tick(&mut self, phase: &mut Phase, level: bool) -> Option<Completed>
-        ensures* answer { λ r. ⌜ r ≡ completion level phase.old ⌝ }
-        ensures* phase { λ _. ⌜ phase.new ≡ phase_ticked level phase.old ⌝ }
-        ensures* after { λ _. ⌜ self.new ≡ ticked level phase.old self.old ⌝ }
+        ensures answer { result ≡ completion level phase.old }
+        ensures phase { phase.new ≡ phase_ticked level phase.old }
+        ensures after { self.new ≡ ticked level phase.old self.old }
     {
         let due = phase.due();
         let completed = self.record(phase, due, level);
@@ -153,7 +153,7 @@ impl Ssi {
 
     /// The SSI Mode Status word, with SENSOR STATUS and BSY of the controller's phase.
     pub fn status(&self, active: bool, busy: bool) -> u32
-        ensures* { λ r. ⌜ r ≡ status_word active busy self.now ⌝ }
+        ensures { result ≡ status_word active busy self.now }
     {
         let w = u32::from(busy);
         let w = with_bit(w, 1, self.parity_error);

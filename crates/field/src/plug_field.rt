@@ -3,7 +3,7 @@ ghost use Rattle.std.specs.Prelude.{◌≡◌, ◌<◌, ◌≤◌, MatchResult};
 ghost use Rattle.sensor.specs.Model.{reset_to};
 ghost use Rattle.field.specs.Plugging.{plug_model, not_plugged};
 ghost use Rattle.field.specs.Wiring.{plugged};
-ghost use Rattle.field.specs.FieldLaws.{plug-sounds};
+ghost use Rattle.field.specs.FieldLaws.{plug_sounds};
 
 use crate::field::Field;
 use crate::plug::Plug;
@@ -13,7 +13,7 @@ use sensor::sensor::Sensor;
 impl<S: Sensor, F: Field> Field for Plug<S, F> {
     ghost wired = { plug_model S.Sensor.meaning F.Field.wired };
 
-    ghost sound = { λ p. plug-sounds _ _ _ p.within (S.Sensor.sound p.sensor) (F.Field.sound p.below) };
+    ghost sound = { λ p. plug_sounds _ _ _ p.within (S.Sensor.sound p.sensor) (F.Field.sound p.below) };
 
     fn level(&self, channel: u32) -> Option<bool> {
         if channel == self.channel {

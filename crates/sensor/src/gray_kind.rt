@@ -4,7 +4,7 @@ ghost use Rattle.std.specs.Result.{result_map_both};
 ghost use Rattle.sensor.specs.Kinds.{gray_model};
 ghost use Rattle.sensor.specs.Model.{made};
 ghost use Rattle.std.proofs.Common.{rules};
-ghost use Rattle.frame.proofs.GrayWords.{ungray-below};
+ghost use Rattle.frame.proofs.GrayWords.{ungray_below};
 
 use crate::constants::Constants;
 use crate::gray::GraySensor;
@@ -32,7 +32,7 @@ impl GraySensor {
 impl Sensor for GraySensor {
     ghost meaning = { gray_model };
 
-    ghost sound = { λ s. record { ranged = Prim.search rules; below = ungray-below 32 _ s.word s.below; within = Prim.search rules } };
+    ghost sound = { λ s. record { ranged = Prim.search rules; below = ungray_below 32 _ s.word s.below; within = Prim.search rules } };
 
     fn level(&self) -> bool {
         self.register.level()

@@ -34,9 +34,9 @@ pub returns-in-24 : goal.returns-in-24
 unfolding register_written
 returns-in-24 c = search rules
 
-pub returns-else-in-counter-mode : goal.returns-else-in-counter-mode
+pub returns-else-in_counter_mode : goal.returns-else-in_counter_mode
 unfolding register_written
-returns-else-in-counter-mode c = search rules
+returns-else-in_counter_mode c = search rules
 
 pub returns-in-28 : goal.returns-in-28
 unfolding register_written
@@ -46,9 +46,9 @@ pub returns-in-32 : goal.returns-in-32
 unfolding register_written
 returns-in-32 c = search rules
 
-pub returns-else-takes-requests : goal.returns-else-takes-requests
+pub returns-else-takes_requests : goal.returns-else-takes_requests
 unfolding register_written
-returns-else-takes-requests c = search rules
+returns-else-takes_requests c = search rules
 
 pub returns : goal.returns
 unfolding register_written

@@ -3,8 +3,8 @@ use Rattle.channel.specs.Lines.{lines_steady}
 use Rattle.channel.proofs.Stills.{clocked, steady_former, steady_ticked}
 use Rattle.channel.proofs.lines.Lines.tick.Goals as goal
 
-pub returns-then-is-steady : goal.returns-then-is-steady
-returns-then-is-steady c =
+pub returns-then-is_steady : goal.returns-then-is_steady
+returns-then-is_steady c =
     let x = c.args.seen in
     let l = c.args.self.now in
     let e : lines_steady x l ≡ true = search rules in

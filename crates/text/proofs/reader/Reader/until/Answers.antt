@@ -15,7 +15,7 @@ pub invariant_of-self : goal.invariant_of-self
 invariant_of-self c =
     let b = cut_within c.args.end c.args.self.now.bytes.now c.args.self.now.at c.length_until-n.result
     c.length_until-n.ensures c.args.self.now.within in
-    (elim c.if-stop-bytes.branch [ then-stop-bytes w ↦ omega (arith, w.self-is) | else-stop-bytes w ↦ omega (arith, w.self-is) ], tt)
+    record { within = elim c.if-stop-bytes.branch [ then-stop-bytes w ↦ omega (arith, w.self-is) | else-stop-bytes w ↦ omega (arith, w.self-is) ] }
 
 pub returns : goal.returns
 returns c =
