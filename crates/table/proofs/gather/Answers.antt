@@ -9,10 +9,10 @@ pub loop-k-preserved : goal.loop-k-preserved
 loop-k-preserved c =
     gathered_more (width_of c.args.share) (share_of c.args.share) c.args.channels.now c.loop-k.k _ _ _ _ _
     c.width-width.ensures.answer (omega arith) c.loop-k.invariant.0 c.share.ensures.answer
-    c.with-field-word.ensures.answer c.with-field-word.ensures.below
+    c.with_field-word.ensures.answer c.with_field-word.ensures.below
 
-pub with-field-word-requires : goal.with-field-word-requires
-with-field-word-requires c =
+pub with_field-word-requires : goal.with_field-word-requires
+with_field-word-requires c =
     let room = gathered_room c.width-width.result c.loop-k.k c.width-width.ensures.most c.loop-k-test.true in
     let few = c.width-width.ensures.most in
     record {

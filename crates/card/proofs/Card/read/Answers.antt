@@ -2,9 +2,9 @@ use Rattle.std.proofs.Common.{rules}
 use Rattle.card.specs.Calls.{read_done}
 use Rattle.card.proofs.Card.read.Goals as goal
 
-pub returns-in-err-check-offset : goal.returns-in-err-check-offset
+pub returns-in_err-check_offset : goal.returns-in_err-check_offset
 unfolding read_done
-returns-in-err-check-offset c = search rules
+returns-in_err-check_offset c = search rules
 
 pub returns-in-392 : goal.returns-in-392
 unfolding read_done
@@ -22,6 +22,6 @@ pub returns-in-400-to-431 : goal.returns-in-400-to-431
 unfolding read_done
 returns-in-400-to-431 c = search rules
 
-pub returns-in-default : goal.returns-in-default
+pub returns-in_default : goal.returns-in_default
 unfolding read_done
-returns-in-default c = search rules
+returns-in_default c = search rules

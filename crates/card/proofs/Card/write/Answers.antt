@@ -5,16 +5,16 @@ use Rattle.card.proofs.Refused.{exit_is, refused_record, refused_write}
 use Rattle.card.specs.Calls.{accepted, card_after_write, write_done}
 use Rattle.card.proofs.Card.write.Goals as goal
 
-pub returns-in-err-check-offset : goal.returns-in-err-check-offset
+pub returns-in_err-check_offset : goal.returns-in_err-check_offset
 unfolding write_done
-returns-in-err-check-offset c = search rules
+returns-in_err-check_offset c = search rules
 
 pub returns-in-err-write : goal.returns-in-err-write
 returns-in-err-write c =
     let k = c.args.self.now in
     let e = c.in-err-write.field-0.0 in
     let s : register_answer (place_at c.args.offset) c.args.value ≡ Err e = sym c.write.ensures.answer ∙ c.in-err-write.was in
-    let p : offset_checked c.args.offset ≡ Ok tt = sym c.check-offset.ensures ∙ c.in-ok-check-offset.was in
+    let p : offset_checked c.args.offset ≡ Ok tt = sym c.check_offset.ensures ∙ c.in_ok-check_offset.was in
     let d : write_done k c.args.offset c.args.value ≡ Err e =
     refused_write k c.args.offset c.args.value e p (omega arith) (omega arith) s in
     record {
@@ -26,6 +26,6 @@ pub returns-in-ok-write : goal.returns-in-ok-write
 unfolding write_done
 returns-in-ok-write c = search rules
 
-pub returns-in-default : goal.returns-in-default
+pub returns-in_default : goal.returns-in_default
 unfolding write_done
-returns-in-default c = search rules
+returns-in_default c = search rules

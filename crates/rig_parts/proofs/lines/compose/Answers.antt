@@ -7,7 +7,7 @@ pub loop-k-init : goal.loop-k-init
 loop-k-init g c = composed_none _ _
 
 pub loop-k-preserved : goal.loop-k-preserved
-loop-k-preserved g c = composed_more _ _ _ _ _ _ c.loop-k.invariant c.level.ensures c.put-level-all.ensures
+loop-k-preserved g c = composed_more _ _ _ _ _ _ c.loop-k.invariant c.level.ensures c.put_level-all.ensures
 
 pub returns : goal.returns
 returns g c =

@@ -2,21 +2,21 @@ use Rattle.std.proofs.Common.{rules}
 use Rattle.channel.specs.Registers.{register_written}
 use Rattle.channel.proofs.channel.Channel.write.Goals as goal
 
-pub returns-in-err-write-control : goal.returns-in-err-write-control
+pub returns-in_err-write_control-in-0 : goal.returns-in_err-write_control-in-0
 unfolding register_written
-returns-in-err-write-control c = search rules
+returns-in_err-write_control-in-0 c = search rules
 
-pub returns-in-err-write-control-2 : goal.returns-in-err-write-control-2
+pub returns-in_err-write_control-in-8 : goal.returns-in_err-write_control-in-8
 unfolding register_written
-returns-in-err-write-control-2 c = search rules
+returns-in_err-write_control-in-8 c = search rules
 
-pub returns-in-ok-write-control : goal.returns-in-ok-write-control
+pub returns-in_ok-write_control-in-0 : goal.returns-in_ok-write_control-in-0
 unfolding register_written
-returns-in-ok-write-control c = search rules
+returns-in_ok-write_control-in-0 c = search rules
 
-pub returns-in-ok-write-control-2 : goal.returns-in-ok-write-control-2
+pub returns-in_ok-write_control-in-8 : goal.returns-in_ok-write_control-in-8
 unfolding register_written
-returns-in-ok-write-control-2 c = search rules
+returns-in_ok-write_control-in-8 c = search rules
 
 pub returns-in-12 : goal.returns-in-12
 unfolding register_written

@@ -4,7 +4,7 @@ use Rattle.sensor.proofs.KindLaws.{turn_made, turn_refused, gray_fits, gray_back
 use Rattle.sensor.proofs.gray_kind.GraySensorSensor.turn.Goals as goal
 
 pub invariant_of-self : goal.invariant_of-self
-invariant_of-self c = (gray_fits _ c.args.position _ _ c.to_gray-self.ensures c.allows.ensures c.if-allows.true, tt)
+invariant_of-self c = record { below = gray_fits _ c.args.position _ _ c.to_gray-self.ensures c.allows.ensures c.if-allows.true }
 
 pub returns-then-allows : goal.returns-then-allows
 returns-then-allows c =
