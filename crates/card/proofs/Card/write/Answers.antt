@@ -9,22 +9,22 @@ pub returns-in_err-check_offset : goal.returns-in_err-check_offset
 unfolding write_done
 returns-in_err-check_offset c = search rules
 
-pub returns-in-err-write : goal.returns-in-err-write
-returns-in-err-write c =
+pub returns-in_err-write-in-16-to-335 : goal.returns-in_err-write-in-16-to-335
+returns-in_err-write-in-16-to-335 c =
     let k = c.args.self.now in
-    let e = c.in-err-write.field-0.0 in
-    let s : register_answer (place_at c.args.offset) c.args.value ≡ Err e = sym c.write.ensures.answer ∙ c.in-err-write.was in
+    let e = c.in_err-write-in-16-to-335.field-0.0 in
+    let s : register_answer (place_at c.args.offset) c.args.value ≡ Err e = sym c.write.ensures.answer ∙ c.in_err-write-in-16-to-335.was in
     let p : offset_checked c.args.offset ≡ Ok tt = sym c.check_offset.ensures ∙ c.in_ok-check_offset.was in
     let d : write_done k c.args.offset c.args.value ≡ Err e =
     refused_write k c.args.offset c.args.value e p (omega arith) (omega arith) s in
     record {
-      answer = exit_is c.from-residual-in-err-write.result c.from-residual-in-err-write.ensures.1 ∙ ap accepted (sym d);
+      answer = exit_is c.from_residual-in_err-write-in-16-to-335.result c.from_residual-in_err-write-in-16-to-335.ensures.1 ∙ ap accepted (sym d);
       after = refused_record k c.args.offset c.args.value e _ s c.write.ensures.after ∙ ap (card_after_write k) (sym d);
     }
 
-pub returns-in-ok-write : goal.returns-in-ok-write
+pub returns-in_ok-write-in-16-to-335 : goal.returns-in_ok-write-in-16-to-335
 unfolding write_done
-returns-in-ok-write c = search rules
+returns-in_ok-write-in-16-to-335 c = search rules
 
 pub returns-in_default : goal.returns-in_default
 unfolding write_done
