@@ -11,9 +11,9 @@ loop-i-preserved g c =
     let b = new_bench (g.F.Field.wired c.args.field.now) in
     let x = get_or c.args.calls.now c.loop-i.i _ in (
       run_more b _ c.args.calls.now c.loop-i.i _ (omega arith)
-          (c.make-rig-call.ensures.after ∙ ap (λ (n : Bench). step_on n x) c.loop-i.invariant.0),
+          (c.make_rig_call.ensures.after ∙ ap (λ (n : Bench). step_on n x) c.loop-i.invariant.0),
       answers_more b c.args.calls.now c.loop-i.answers c.loop-i.i _ _ (omega arith) (omega arith) c.loop-i.invariant.1
-          (c.make-rig-call.ensures.answer ∙ ap (λ (n : Bench). answer_on n x) c.loop-i.invariant.0),
+          (c.make_rig_call.ensures.answer ∙ ap (λ (n : Bench). answer_on n x) c.loop-i.invariant.0),
       rest_more c.loop-i.answers c.args.answers.now c.loop-i.i _ c.loop-i.invariant.2,
     )
 
