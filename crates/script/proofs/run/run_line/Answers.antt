@@ -11,15 +11,15 @@ returns-in_err-offset c =
     refused_line_lem (line_as c.args.line.now c.args.card.now room c.in_err-offset.ensures)
     (exit_is c.from_residual.result c.from_residual.ensures.1) refl refl
 
-pub returns-in-err-write : goal.returns-in-err-write
-returns-in-err-write c =
+pub returns-in_err-write-in-Write : goal.returns-in_err-write-in-Write
+returns-in_err-write-in-Write c =
     let room = length c.args.out.now - c.args.at in
     let k = c.args.card.now in
-    let q = accepted_err (write_done k c.in-Write.offset c.in-Write.value) _ c.in-err-write.ensures.answer in
+    let q = accepted_err (write_done k c.in-Write.offset c.in-Write.value) _ c.in_err-write-in-Write.ensures.answer in
     let l = line_as c.args.line.now k room c.in_ok-offset.ensures in
     refused_line_lem (l ∙ (ap (λ y. command_ran (Ok y) k room) c.in-Write.is ∙ ap (λ g. fitting room (write_ran g)) q))
-    (exit_is c.from-residual-in-err-write.result c.from-residual-in-err-write.ensures.1)
-    (c.in-err-write.ensures.after ∙ ap (λ g. card_after_write k g) q) refl
+    (exit_is c.from_residual-in_err-write-in-Write.result c.from_residual-in_err-write-in-Write.ensures.1)
+    (c.in_err-write-in-Write.ensures.after ∙ ap (λ g. card_after_write k g) q) refl
 
 pub returns-in-Read : goal.returns-in-Read
 returns-in-Read c =
@@ -29,16 +29,16 @@ returns-in-Read c =
     let P : Result Done Fault → Type 0 = λ x. Ran x c.read_register.result k c.read_register.new.card c.args.at c.args.out.now c.read_register.new.out in
     subst P (sym (l ∙ ap (λ y. command_ran (Ok y) k room) c.in-Read.is)) c.read_register.ensures
 
-pub returns-in-ok-write : goal.returns-in-ok-write
-returns-in-ok-write c =
+pub returns-in_ok-write-in-Write : goal.returns-in_ok-write-in-Write
+returns-in_ok-write-in-Write c =
     let room = length c.args.out.now - c.args.at in
     let k = c.args.card.now in
-    let q = accepted_ok (write_done k c.in-Write.offset c.in-Write.value) c.in-ok-write.ensures.answer in
+    let q = accepted_ok (write_done k c.in-Write.offset c.in-Write.value) c.in_ok-write-in-Write.ensures.answer in
     let l = line_as c.args.line.now k room c.in_ok-offset.ensures in
     run_line_lem (record { card = q.0; bytes = [] })
     (l ∙ (ap (λ y. command_ran (Ok y) k room) c.in-Write.is ∙ (ap (λ g. fitting room (write_ran g)) q.1 ∙ fits_none room q.0)))
     refl
-    (c.in-ok-write.ensures.after ∙ ap (λ g. card_after_write k g) q.1)
+    (c.in_ok-write-in-Write.ensures.after ∙ ap (λ g. card_after_write k g) q.1)
     (sym (placed_none c.args.at c.args.out.now))
 
 pub returns-in-Tick : goal.returns-in-Tick

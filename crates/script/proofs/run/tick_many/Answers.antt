@@ -11,4 +11,4 @@ pub loop-i-preserved : goal.loop-i-preserved
 unfolding ticked
 loop-i-preserved c =
     c.tick.ensures.after ∙ (ap (λ k. tick_done c.args.lines c.args.inputs k) c.loop-i.invariant
-    ∙ ap (λ n. ticked n c.args.lines c.args.inputs c.args.card.now) (sym (add-one c.loop-i.-i)))
+    ∙ ap (λ n. ticked n c.args.lines c.args.inputs c.args.card.now) (sym (add-one c.loop-i._i)))

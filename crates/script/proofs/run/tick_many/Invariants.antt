@@ -3,4 +3,4 @@ use Rattle.script.specs.Runs.{ticked}
 use Rattle.script.proofs.run.tick_many.Given as goal
 
 abbrev pub invariant-loop-i : goal.invariant-loop-i
-invariant-loop-i l = l.card ≡ ticked l.-i l.lines l.inputs l.initial.card
+invariant-loop-i l = l.card ≡ ticked l._i l.lines l.inputs l.initial.card
