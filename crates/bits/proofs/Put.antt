@@ -1,5 +1,5 @@
 -- A field put above a word that ends below it.
-use Rattle.std.proofs.Common.{◌≡◌, ℕ, ◌+◌, ◌*◌, ◌%◌, ◌^◌, ◌<◌, ◌≤◌, Bool, cond, ap, ◌∙◌, add_comm, arith}
+use Rattle.std.proofs.Common.{◌≡◌, ℕ, ◌+◌, ◌*◌, ◌%◌, ◌^◌, ◌<◌, ◌≤◌, ap, ◌∙◌, add_comm, arith}
 use lib.Bits.{bit_or}
 use Rattle.std.proofs.lemmas.Nat.{shl_whole, or_shifted, or_comm, mul-add-lt, pow-add}
 

@@ -1,14 +1,14 @@
 -- A write that a channel refuses leaves the card as it was.
-use Rattle.std.proofs.Common.{◌≡◌, ℕ, ◌<◌, ◌≤◌, Bool, true, false, cond, ◌&&◌, ltb, leb, List, get_or, set, IsErrAnd, Ok, Err, Result, sym, refl, ap, ◌∙◌, arith}
+use Rattle.std.proofs.Common.{◌≡◌, ℕ, ◌<◌, ◌≤◌, true, List, IsErrAnd, Ok, Err, Result, refl, ap, ◌∙◌}
 use Rattle.std.proofs.lemmas.List.{set-get_or}
 use Rattle.std.proofs.lemmas.Bool.{le-leb, lt-ltb}
 use Rattle.refusal.specs.declared.Refusal.{Refusal}
 use Rattle.channel.specs.declared.channel.Channel.{Channel}
 use Rattle.channel.specs.Registers.{register_answer, register_written}
 use Rattle.channel.proofs.Refused.{refused_leaves}
-use Rattle.card.specs.Calls.{Card, accepted, card_after_write, given, write_done}
+use Rattle.card.specs.Calls.{Card, write_done}
 use Rattle.card.specs.Records.{channel_of, with_channel}
-use Rattle.card.specs.Registers.{channel_at, in_channels, offset_checked, place_at, register_set, setting_checked}
+use Rattle.card.specs.Registers.{channel_at, in_channels, offset_checked, place_at}
 
 -- what `?` gives back where nothing is converted
 pub exit_is : (r : Result (Unit {0}) Refusal) {f : Refusal} → IsErrAnd r (λ y. y ≡ f) → r ≡ Err f

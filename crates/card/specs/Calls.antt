@@ -1,5 +1,5 @@
 -- What each call of the card answers, and the card after it.
-use Rattle.std.specs.Prelude.{ℕ, cond, replicate, Ok, Err, Result}
+use Rattle.std.specs.Prelude.{ℕ, replicate, Ok, Err, Result}
 use Rattle.refusal.specs.declared.Refusal.{Refusal}
 use Rattle.channel.specs.Ticks.{new_channel}
 use Rattle.table.specs.Tables.{table_ticked}

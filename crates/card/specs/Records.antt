@@ -1,5 +1,5 @@
 -- The card's record with one part replaced, and one record of its table.
-use Rattle.std.specs.Prelude.{ℕ, Bool, true, false, List, slice_index_or, slice_set}
+use Rattle.std.specs.Prelude.{ℕ, false, List, slice_index_or, slice_set}
 use Rattle.filter.specs.declared.debounce.TimeBase.TheVariants.{Ns30}
 use Rattle.filter.specs.Filters.{new_timing, no_samples}
 use Rattle.frame.specs.declared.format.Code.TheVariants.{Binary}

@@ -1,7 +1,6 @@
 -- What the card keeps for no single channel.
-use Rattle.std.specs.Prelude.{ℕ, ◌+◌, Bool, true, false, cond}
+use Rattle.std.specs.Prelude.{ℕ, ◌+◌, Bool, false, cond}
 use Rattle.bits.specs.Words.{bit_at, word_flag}
-use Rattle.filter.specs.declared.debounce.Debounce.{Debounce}
 use Rattle.filter.specs.Debounces.{debounce_of, reset}
 use Rattle.parts.specs.declared.interrupt.Interrupt.{Interrupt}
 use Rattle.parts.specs.Interrupts.{acknowledged, enabled_to, quiet, raised}

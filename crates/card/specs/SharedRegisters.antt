@@ -1,5 +1,5 @@
 -- Writes of shared registers.
-use Rattle.std.specs.Prelude.{ℕ, Bool, true, false, cond, List, ◌==◌}
+use Rattle.std.specs.Prelude.{ℕ, cond, ◌==◌}
 use Rattle.filter.specs.Debounces.{debounce_of, period_of}
 use Rattle.timer.specs.Timers.{control_written as timerWritten, preload_written as timerPreloaded}
 use Rattle.channel.specs.declared.act.Act.{Act}

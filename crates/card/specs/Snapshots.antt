@@ -1,5 +1,5 @@
 -- Snapshots over all channels.
-use Rattle.std.specs.Prelude.{ℕ, Bool, true, false, cond, not, ◌&&◌, List, ◌==◌}
+use Rattle.std.specs.Prelude.{ℕ, Bool, false, cond, not, ◌&&◌, List, ◌==◌}
 use Rattle.bits.specs.Words.{word_flag}
 use Rattle.channel.specs.declared.act.Act.TheVariants.{ClearSnapshot, Load, Snapshot}
 use Rattle.channel.specs.declared.act.Bit.{Bit}

@@ -1,5 +1,5 @@
 -- Shared registers as they read.
-use Rattle.std.specs.Prelude.{ℕ, ◌+◌, Bool, true, false, cond, not, List, ◌==◌, bit_and}
+use Rattle.std.specs.Prelude.{ℕ, ◌+◌, Bool, cond, not, List, ◌==◌, bit_and}
 use Rattle.bits.specs.Words.{bit_at, field_at}
 use Rattle.filter.specs.Debounces.{word_of_debounce as debounceFields}
 use Rattle.timer.specs.Timers.{word_of_control as timerWord}

@@ -1,13 +1,12 @@
 -- An access to one channel's register leaves the others alone.
-use Rattle.std.proofs.Common.{◌≡◌, ℕ, ◌%◌, ◌<◌, ◌≤◌, Bool, true, false, cond, not, ◌&&◌, ◌||◌, eqb, ltb, leb, get_or, set, Ok, Err, Result, sym, refl, ap, ◌∙◌, subst, arith}
+use Rattle.std.proofs.Common.{◌≡◌, ℕ, ◌<◌, ◌≤◌, Bool, true, false, ◌&&◌, ◌||◌, eqb, ltb, leb, Ok, Err, Result, sym, refl, subst, arith}
 use Rattle.std.proofs.lemmas.List.{get_or-set_other}
-use Rattle.std.proofs.lemmas.Bool.{eqb-false, leb-true, ltb-true, ne_eqb, le-leb}
+use Rattle.std.proofs.lemmas.Bool.{eqb-false, leb-true, ltb-true, ne_eqb}
 use Rattle.refusal.specs.declared.Refusal.{Refusal}
-use Rattle.refusal.specs.declared.Refusal.TheVariants.{Offset}
 use Rattle.channel.specs.declared.channel.Channel.{Channel}
 use Rattle.card.specs.Calls.{Card, Got, accepted, card_after_read, card_after_write, given, read_done, value_of, write_done}
-use Rattle.card.specs.Records.{blank, channel_of, with_channel}
-use Rattle.card.specs.Registers.{channel_at, in_channels, in_snapshots, offset_checked, place_at, register_read, register_set, setting_checked, snapshot_at}
+use Rattle.card.specs.Records.{blank, with_channel}
+use Rattle.card.specs.Registers.{channel_at, in_channels, in_snapshots, offset_checked, register_read, register_set, setting_checked, snapshot_at}
 use Rattle.card.specs.SharedRegisters.{shared_written}
 use Rattle.card_laws.specs.Laws.{AltersOneRecord, is_of, is_single, RefusedLeaves, Untouched}
 

@@ -1,5 +1,5 @@
 -- Reads that leave the card.
-use Rattle.std.proofs.Common.{◌≡◌, ℕ, Bool, true, false, cond, ◌&&◌, ◌||◌, eqb, List, Ok, Err, Result, sym, refl, ap, ◌∙◌, subst, arith}
+use Rattle.std.proofs.Common.{◌≡◌, ℕ, Bool, true, false, cond, ◌&&◌, ◌||◌, eqb, List, Ok, Err, Result, refl, ap, ◌∙◌, arith}
 use Rattle.std.proofs.lemmas.List.{set-get_or}
 use Rattle.refusal.specs.declared.Refusal.{Refusal}
 use Rattle.channel.specs.declared.channel.Channel.{Channel}
@@ -8,9 +8,9 @@ use Rattle.channel.specs.declared.mode.Mode.TheVariants.{Off, Counter, Ssi}
 use Rattle.channel.specs.Registers.{data_taken, data_taken_as, is_counter_mode, in_counter_mode_as, register_taken}
 use Rattle.card.specs.Calls.{Card, card_after_read, given, read_done}
 use Rattle.card.specs.Records.{blank, channel_of, with_channel}
-use Rattle.card.specs.Registers.{channel_at, edges_read, in_channels, in_snapshots, interrupts_read, offset_checked, place_at, register_read}
+use Rattle.card.specs.Registers.{channel_at, in_channels, in_snapshots, offset_checked, place_at, register_read}
 use Rattle.card_laws.specs.Laws.{acknowledges, QuietReads, unlocks}
-use Rattle.card_laws.proofs.Apart.{and_false, or_false}
+use Rattle.card_laws.proofs.Apart.{and_false}
 
 not_counting : (m : Mode) (x : Channel) → in_counter_mode_as m ≡ false → data_taken_as m x ≡ x
 not_counting (Off z) x e = refl

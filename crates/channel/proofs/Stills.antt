@@ -1,8 +1,8 @@
 -- A tick of the lines in which no sample tells anything new.
-use Rattle.std.proofs.Common.{◌≡◌, ℕ, Bool, true, false, cond, not, ◌&&◌, Some, None, Option, sym, refl, ap, ◌∙◌, arith}
+use Rattle.std.proofs.Common.{◌≡◌, ℕ, Bool, true, false, cond, not, ◌&&◌, Some, None, Option, sym, refl, ap, arith}
 use Rattle.counter_count.specs.declared.levels.Levels.{Levels}
 use Rattle.filter.specs.declared.timing.FilterTiming.{FilterTiming}
-use Rattle.filter.specs.Filters.{line_filtered, samples_in, steady_at, ticked}
+use Rattle.filter.specs.Filters.{samples_in, steady_at, ticked}
 use Rattle.filter.proofs.Steady.{steady_filtered}
 use Rattle.parts.specs.declared.input.Input.{Input}
 use Rattle.parts.specs.Inputs.{input_ticked}

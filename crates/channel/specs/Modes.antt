@@ -1,5 +1,5 @@
 -- How a channel changes its mode.
-use Rattle.std.specs.Prelude.{ℕ, Bool, true, false, cond, ◌==◌}
+use Rattle.std.specs.Prelude.{ℕ, cond, ◌==◌}
 use Rattle.counter.specs.Registers.{entered, left}
 use Rattle.controller.specs.declared.phase.Phase.TheVariants.{Waiting}
 use Rattle.controller.specs.Phase.{busy_in}

@@ -1,5 +1,5 @@
 -- The registers of one channel, by their offset in the channel's span.
-use Rattle.std.specs.Prelude.{ℕ, Bool, true, false, cond, ◌&&◌, Ok, Err, Result, ◌==◌}
+use Rattle.std.specs.Prelude.{ℕ, Bool, true, false, cond, Ok, Result, ◌==◌}
 use Rattle.refusal.specs.declared.Refusal.{Refusal}
 use Rattle.filter.specs.Debounces.{debounce_of, word_of_debounce, period_of}
 use Rattle.counter_control.specs.Words.{word_of_control}

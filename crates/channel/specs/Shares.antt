@@ -1,5 +1,5 @@
 -- A channel's share of the shared registers.
-use Rattle.std.specs.Prelude.{ℕ, ◌+◌, ◌*◌, Bool, true, false, cond}
+use Rattle.std.specs.Prelude.{ℕ, ◌+◌, ◌*◌, Bool, true, cond}
 use Rattle.bits.specs.Words.{bit_at, word_field, word_flag}
 use Rattle.counter.specs.Registers.{preload_loaded, preload_matches}
 use Rattle.controller.specs.Phase.{clock_of}

@@ -1,5 +1,5 @@
 -- What a snapshot trigger does to a channel.
-use Rattle.std.specs.Prelude.{Bool, true, false, cond}
+use Rattle.std.specs.Prelude.{Bool, false, cond}
 use Rattle.controller.specs.declared.control.Start.{Start}
 use Rattle.controller.specs.declared.control.Start.TheVariants.{Request, Timer}
 use Rattle.controller.specs.Phase.{busy_in}

@@ -18,7 +18,7 @@ use Rattle.channel.specs.declared.mode.Mode.TheVariants.{Off, Counter as Countin
 use Rattle.channel.specs.declared.mode.OffCode.TheVariants.{Zeros}
 use Rattle.channel.specs.declared.channel.Channel.{Channel}
 use Rattle.channel.specs.Lines.{levels_of, lines_ticked, new_lines}
-use Rattle.channel.specs.Records.{seeing, with_counter, with_interrupts, with_mode, with_snapshot, with_ssi, working}
+use Rattle.channel.specs.Records.{seeing, with_counter, with_interrupts, with_mode, with_snapshot, with_ssi}
 
 -- at power-on a channel is off, and its filters sample every three ticks
 abbrev pub new_channel : Channel

@@ -1,13 +1,13 @@
 -- A tick in which no level changes has no event of the index mode.
-use Rattle.std.proofs.Common.{◌≡◌, Bool, false, cond, not, ◌&&◌, ◌||◌, sym, refl, ap}
+use Rattle.std.proofs.Common.{◌≡◌, Bool, false, sym, refl, ap}
 use Rattle.counter_control.specs.declared.modes.IndexMode.{IndexMode}
 use Rattle.counter_control.specs.declared.modes.IndexMode.TheVariants.{Ignore, Load, Latch, Gate, Reset}
 use Rattle.counter_count.specs.declared.levels.Levels.{Levels}
-use Rattle.counter_count.specs.Steps.{rises, seen_through}
+use Rattle.counter_count.specs.Steps.{seen_through}
 use Rattle.counter_count.specs.Ticks.{count_outcome, count_ticked}
 use Rattle.counter_count.proofs.Rests.{rises_same}
 use Rattle.counter.specs.declared.counter.Counter.{Counter}
-use Rattle.counter.specs.Counters.{counted, index_cause, indexed, latches, match_cause, rest_causes, tick_causes, ticked, with_count}
+use Rattle.counter.specs.Counters.{counted, index_cause, indexed, match_cause, rest_causes, tick_causes, ticked, with_count}
 
 rest_cause : (m : IndexMode) (i : Bool) (c : Counter) → index_cause m i i c ≡ false
 rest_cause Ignore i c = refl

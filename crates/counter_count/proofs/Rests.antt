@@ -1,16 +1,15 @@
 -- A tick in which no level changes: no edge, no event on I, and no step but the clock's.
-use Rattle.std.proofs.Common.{◌≡◌, ℕ, Bool, true, false, cond, not, ◌&&◌, Some, None, Option, refl, ap, ◌∙◌}
+use Rattle.std.proofs.Common.{◌≡◌, ℕ, Bool, true, false, None, refl, ap, ◌∙◌}
 use Rattle.counter_control.specs.declared.modes.InputMode.{InputMode}
 use Rattle.counter_control.specs.declared.modes.InputMode.TheVariants.{Disabled, TimerUp, TimerDown, Direction, UpDown, Quadrature1, Quadrature2, Quadrature4}
 use Rattle.counter_control.specs.declared.modes.IndexMode.{IndexMode}
 use Rattle.counter_control.specs.declared.modes.IndexMode.TheVariants.{Ignore, Load, Latch, Gate, Reset}
 use Rattle.counter_count.specs.declared.levels.Levels.{Levels}
 use Rattle.counter_count.specs.declared.count.Count.{Count}
-use Rattle.counter_count.specs.declared.count.Outcome.{Outcome}
 use Rattle.counter_count.specs.declared.step.Step.{Step}
 use Rattle.counter_count.specs.declared.step.Step.TheVariants.{Hold}
 use Rattle.counter_count.specs.Steps.{clock_step, differ, rises, seen_through, step_gated, step_of}
-use Rattle.counter_count.specs.Counts.{divided, driven, drive_outcome, due_in, load_of_event, step_outcome, stepped}
+use Rattle.counter_count.specs.Counts.{divided, due_in, load_of_event, step_outcome, stepped}
 use Rattle.counter_count.specs.Ticks.{advanced, advance_outcome, count_outcome, count_ticked}
 
 differ_same : (x : Bool) → differ x x ≡ false

@@ -1,9 +1,9 @@
 -- A line that has stood at one level: what the filter's samples and level then are.
-use Rattle.std.proofs.Common.{◌≡◌, ℕ, zero, suc, ◌+◌, ◌*◌, ◌<◌, ◌≤◌, Bool, true, false, cond, ◌&&◌, eqb, ltb, replicate, sym, refl, ap, ◌∙◌, subst, arith}
+use Rattle.std.proofs.Common.{◌≡◌, ℕ, zero, suc, ◌+◌, ◌*◌, ◌<◌, ◌≤◌, Bool, true, false, cond, ◌&&◌, replicate, sym, refl, ap, subst, arith}
 use Rattle.std.proofs.lemmas.Bool.{eqb-true, eqb-false, lt-ltb}
 use Rattle.filter.specs.declared.samples.Samples.{Samples}
 use Rattle.filter.specs.declared.timing.FilterTiming.{FilterTiming}
-use Rattle.filter.specs.Filters.{checked, clock_ticked, is_due, line_filtered, same, samples_in, settled, taken, ticked}
+use Rattle.filter.specs.Filters.{checked, clock_ticked, is_due, line_filtered, same, samples_in, taken, ticked}
 use Rattle.filter.specs.Settling.{filtered_over, Settles}
 
 -- the line has been v for the last m ticks

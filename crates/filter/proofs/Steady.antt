@@ -1,7 +1,7 @@
 -- A sample of a line that has stood still alters nothing.
-use Rattle.std.proofs.Common.{◌≡◌, ℕ, Bool, true, false, cond, ◌&&◌, sym, refl, arith}
+use Rattle.std.proofs.Common.{◌≡◌, ℕ, Bool, true, false, sym, refl, arith}
 use Rattle.filter.specs.declared.samples.Samples.{Samples}
-use Rattle.filter.specs.Filters.{line_filtered, same, steady_at, taken}
+use Rattle.filter.specs.Filters.{line_filtered, steady_at, taken}
 
 abbrev made : Bool → Bool → Bool → Samples
 made a b l = record { last = a; before = b; level = l }

@@ -1,5 +1,5 @@
 -- A filter's numbers after a tick, where a filter can have them and where not.
-use Rattle.std.proofs.Common.{◌≡◌, ℕ, Bool, true, false, cond, sym, refl, ap, ◌∙◌}
+use Rattle.std.proofs.Common.{◌≡◌, ℕ, true, false, sym, refl, ap, ◌∙◌}
 use Rattle.filter.specs.declared.timing.FilterTiming.{FilterTiming}
 use Rattle.filter.specs.Filters.{checked, clock_ticked, fits, is_due, new_timing, samples_in, ticked}
 

@@ -1,5 +1,5 @@
 -- A frame that is sent is read back.
-use Rattle.std.proofs.Common.{◌≡◌, ℕ, ◌+◌, ◌-◌, ◌*◌, ◌/◌, ◌%◌, ◌^◌, ◌<◌, ◌≤◌, false, eqb, sym, refl, ap, ◌∙◌, subst, mod-eq_of_lt, arith, pow_mono}
+use Rattle.std.proofs.Common.{◌≡◌, ℕ, ◌+◌, ◌*◌, ◌/◌, ◌%◌, ◌^◌, ◌<◌, ◌≤◌, false, eqb, sym, refl, ap, ◌∙◌, subst, mod-eq_of_lt, arith, pow_mono}
 use lib.Bits.{bit_and, and_block, and_mask}
 use lib.Count.{ones, ones_cat, ones_step, ones-le}
 use Rattle.std.proofs.lemmas.Nat.{mul-add-lt, pow-add, shr-shr, shr_high, mod_low}

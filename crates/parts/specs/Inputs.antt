@@ -1,5 +1,5 @@
 -- A channel's 24 V input.
-use Rattle.std.specs.Prelude.{Bool, true, false, cond, not, ◌&&◌, ℕ}
+use Rattle.std.specs.Prelude.{Bool, false, cond, not, ◌&&◌, ℕ}
 use Rattle.filter.specs.declared.samples.Samples.{Samples}
 use Rattle.filter.specs.declared.timing.FilterTiming.{FilterTiming}
 use Rattle.filter.specs.Filters.{line_filtered, new_timing, no_samples, samples_in, taken, ticked}

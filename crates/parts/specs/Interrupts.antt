@@ -1,5 +1,5 @@
 -- An interrupt: its enable bit and its pending bit.
-use Rattle.std.specs.Prelude.{Bool, true, false, cond, ◌&&◌, ◌||◌}
+use Rattle.std.specs.Prelude.{Bool, true, false, cond, ◌&&◌}
 use Rattle.parts.specs.declared.interrupt.Interrupt.{Interrupt}
 
 -- neither enabled nor pending

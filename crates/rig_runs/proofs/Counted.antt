@@ -1,5 +1,5 @@
 -- Calls on a rig make the card what the card calls among them make it.
-use Rattle.std.proofs.Common.{◌≡◌, ℕ, List, [], ◌∷◌, refl, ap, ◌∙◌}
+use Rattle.std.proofs.Common.{◌≡◌, List, [], ◌∷◌, refl, ap, ◌∙◌}
 use Rattle.card.specs.Calls.{Card}
 use Rattle.card.specs.Records.{channel_of}
 use Rattle.counts.specs.Laws.{AllFit}

@@ -1,5 +1,5 @@
 -- The law of counts over lists of calls on a rig.
-use Rattle.std.specs.Prelude.{◌≡◌, ℕ, ◌^◌, ◌<◌, List, [], ◌∷◌, pos, ◌+ℤ◌}
+use Rattle.std.specs.Prelude.{◌≡◌, ℕ, ◌<◌, List, [], ◌∷◌, pos, ◌+ℤ◌}
 use Rattle.card.specs.Records.{channel_of}
 use Rattle.counts.specs.Laws.{Fits, load_over, sum_over}
 use Rattle.field.specs.Wiring.{FieldModel}

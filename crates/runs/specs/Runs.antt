@@ -1,5 +1,5 @@
 -- Lists of calls on a card: the card after them, and what they answer.
-use Rattle.std.specs.Prelude.{List, [], ◌∷◌, ℕ, ◌^◌, ◌<◌}
+use Rattle.std.specs.Prelude.{List, [], ◌∷◌}
 use Rattle.card.specs.Calls.{Card, accepted, card_after_read, card_after_write, read_done, tick_done, tick_levels, value_of, write_done}
 use Rattle.runs.specs.declared.Answer.{Answer}
 use Rattle.runs.specs.declared.Answer.TheVariants.{Levels, Value, Done}

@@ -1,5 +1,5 @@
 -- The first lines of a script that is run to its end.
-use Rattle.std.proofs.Common.{◌≡◌, ℕ, suc, ◌+◌, ◌-◌, ◌≤◌, true, false, cond, ltb, List, [], ◌∷◌, ◌++◌, length, Ok, Err, Result, sym, refl, ap, ◌∙◌, subst, append_assoc, arith, ltb-false}
+use Rattle.std.proofs.Common.{◌≡◌, ℕ, suc, ◌-◌, ◌≤◌, true, false, cond, ltb, List, [], ◌∷◌, ◌++◌, length, Ok, Err, Result, sym, refl, ap, ◌∙◌, subst, append_assoc, arith, ltb-false}
 use Rattle.std.proofs.lemmas.List.{length-append}
 use Rattle.card.specs.Calls.{Card, powered_on}
 use Rattle.text.specs.Lines.{lines_of}

@@ -1,5 +1,5 @@
 -- How the parts that a kind keeps make its meaning.
-use Rattle.std.proofs.Common.{◌≡◌, ℕ, ◌^◌, ◌<◌, Bool, true, false, ltb, Ok, Err, sym, refl, ◌∙◌}
+use Rattle.std.proofs.Common.{◌≡◌, ℕ, ◌^◌, ◌<◌, Bool, true, false, ltb, Ok, Err, sym, ◌∙◌}
 use Rattle.std.proofs.lemmas.Bool.{ltb-true}
 use Rattle.frame.specs.Gray.{gray_word, ungray}
 use Rattle.frame.proofs.GrayWords.{ungray_gray, gray_below}

@@ -1,5 +1,5 @@
 -- Which bits are named for others: a channel's own fields are not, and neither is what lies outside the fields.
-use Rattle.std.proofs.Common.{◌≡◌, ℕ, ◌+◌, ◌-◌, ◌*◌, ◌/◌, ◌<◌, ◌≤◌, false, not, eqb, ltb, leb}
+use Rattle.std.proofs.Common.{◌≡◌, ℕ, ◌+◌, ◌-◌, ◌*◌, ◌/◌, ◌<◌, ◌≤◌, false, eqb, ltb, leb}
 use Rattle.std.proofs.lemmas.Bool.{and_left, and_right, eq-eqb, eqb-true, le-leb, le-ltb, lt-leb, lt-ltb, not-false, not_from_true}
 use Rattle.separate.specs.Separation.{others_in}
 

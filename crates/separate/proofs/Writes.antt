@@ -1,5 +1,5 @@
 -- Writes of shared registers: cards that are the same for a channel stay so where the words agree in its bits.
-use Rattle.std.proofs.Common.{◌≡◌, ℕ, ◌+◌, ◌-◌, ◌*◌, ◌<◌, Bool, true, false, cond, not, ◌||◌, eqb, ltb, refl, ap, ◌∙◌, subst, ap₂, arith}
+use Rattle.std.proofs.Common.{◌≡◌, ℕ, ◌+◌, ◌*◌, ◌<◌, Bool, true, false, cond, not, ◌||◌, eqb, ltb, refl, ap, ◌∙◌, subst, ap₂, arith}
 use Rattle.std.proofs.lemmas.Bool.{eqb-true, or_from}
 use Rattle.bits.specs.Words.{word_field, word_flag}
 use Rattle.filter.specs.declared.debounce.Debounce.{Debounce}

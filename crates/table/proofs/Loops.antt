@@ -1,5 +1,5 @@
 -- Loops over a table: one record more changed, one field more gathered.
-use Rattle.std.proofs.Common.{◌≡◌, ℕ, zero, suc, ◌+◌, ◌*◌, ◌^◌, ◌<◌, ◌≤◌, List, [], ◌∷◌, ◌++◌, length, get_or, take, set, sym, refl, ap, ◌∙◌, subst, mul_assoc, mul_comm, mul-zero, mul-one, mul-suc, mul-add, add-one, arith}
+use Rattle.std.proofs.Common.{◌≡◌, ℕ, zero, suc, ◌+◌, ◌*◌, ◌^◌, ◌<◌, ◌≤◌, List, [], ◌∷◌, length, get_or, take, set, sym, refl, ap, ◌∙◌, subst, mul_assoc, mul_comm, mul-zero, mul-one, mul-suc, mul-add, add-one, arith}
 use Rattle.std.proofs.lemmas.Nat.{pow-add, mul-le}
 use Rattle.table.specs.Tables.{changed, word_of}
 

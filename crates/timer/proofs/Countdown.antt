@@ -1,10 +1,10 @@
 -- The ticks left until the timer expires fall by one each tick.
-use Rattle.std.proofs.Common.{◌≡◌, ℕ, zero, suc, ◌+◌, ◌-◌, ◌*◌, ◌<◌, ◌≤◌, Bool, true, false, cond, not, ◌&&◌, eqb, ltb, sym, refl, ap, ◌∙◌, subst, suc-mul, zero-mul, arith}
+use Rattle.std.proofs.Common.{◌≡◌, ℕ, zero, suc, ◌+◌, ◌-◌, ◌*◌, ◌<◌, true, false, eqb, ltb, refl, ap, ◌∙◌, suc-mul, zero-mul, arith}
 use Rattle.std.proofs.lemmas.Bool.{lt-ltb, ne_eqb}
 use Rattle.timer.specs.declared.Base.{Base}
 use Rattle.timer.specs.declared.Base.TheVariants.{Ns100, Us1, Ms1, S1}
 use Rattle.timer.specs.declared.Timer.{Timer}
-use Rattle.timer.specs.Timers.{base_ticks, expires, loaded, ticked, with}
+use Rattle.timer.specs.Timers.{base_ticks, expires, loaded, ticked}
 use Rattle.timer.specs.Intervals.{interval, later, KeepsInterval}
 
 -- an enabled timer with l + 1 periods and v + 1 ticks of the present one left

@@ -1,5 +1,5 @@
-use Rattle.std.proofs.Common.{◌≡◌, min, length, get_or, take, ap, ◌∙◌, arith}
-use Rattle.rig.specs.Benches.{Bench, answer_on, bench, new_bench, run_on, step_on}
+use Rattle.std.proofs.Common.{◌≡◌, min, length, get_or, ap, ◌∙◌, arith}
+use Rattle.rig.specs.Benches.{Bench, answer_on, new_bench, step_on}
 use Rattle.delivered.proofs.Stands.{delivers}
 use Rattle.rig_runs.proofs.Counted.{counts_on_rig}
 use Rattle.separate.proofs.Apart.{separate}

@@ -1,4 +1,4 @@
-use Rattle.std.proofs.Common.{◌≡◌, length, take, drop}
+use Rattle.std.proofs.Common.{◌≡◌, take, drop}
 use Rattle.rig.specs.Benches.{answers_on, bench, new_bench, run_on}
 use Rattle.rig_runs.proofs.run_calls.Given as goal
 

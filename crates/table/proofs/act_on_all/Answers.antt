@@ -1,4 +1,4 @@
-use Rattle.std.proofs.Common.{◌≡◌, get_or, ap, ◌∙◌, arith}
+use Rattle.std.proofs.Common.{◌≡◌, arith}
 use Rattle.channel.specs.Shares.{performed}
 use Rattle.table.specs.Tables.{acted}
 use Rattle.table.proofs.Loops.{changed_more}

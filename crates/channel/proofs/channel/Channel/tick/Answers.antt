@@ -1,4 +1,4 @@
-use Rattle.std.proofs.Common.{◌≡◌, ◌∙◌}
+use Rattle.std.proofs.Common.{◌∙◌}
 use Rattle.channel.proofs.Stills.{told_ticked}
 use Rattle.channel.proofs.channel.Channel.tick.Goals as goal
 

@@ -1,4 +1,4 @@
-use Rattle.std.proofs.Common.{◌≡◌, true, sym, ap, ◌∙◌, rules}
+use Rattle.std.proofs.Common.{◌≡◌, true, ap, ◌∙◌, rules}
 use Rattle.channel.specs.Lines.{lines_steady}
 use Rattle.channel.proofs.Stills.{clocked, steady_former, steady_ticked}
 use Rattle.channel.proofs.lines.Lines.tick.Goals as goal

@@ -1,4 +1,4 @@
-use Rattle.std.proofs.Common.{◌≡◌, ◌∙◌}
+use Rattle.std.proofs.Common.{◌∙◌}
 use Rattle.filter.specs.Filters.{timing_of}
 use Rattle.filter.proofs.Timings.{fit_due, fit_ticked, unfit_due, unfit_ticked}
 use Rattle.filter.proofs.timing.FilterTiming.tick.Goals as goal
