@@ -1,5 +1,5 @@
 # The two commands of the README, and what hosts and comparisons need.
-.PHONY: run test cardrun hosts compare bench
+.PHONY: run test cardrun survey hosts compare bench
 
 # How many scripts each comparison runs, the first seed, and whether the slowest time base is run out (100,000,000 ticks).
 SCRIPTS = 3000
@@ -12,10 +12,11 @@ run: cardrun
 test:
 	@tests/all
 
-# Proves and builds cardrun; what is proved already is taken over.
-cardrun:
-	@mkdir -p target
-	@rt check cardrun > target/run.log 2>&1 || { cat target/run.log; exit 1; }
+# Prove and build a program; what is proved already is taken over. rt runs it once, on no input.
+cardrun survey:
+	@mkdir -p target/bin
+	@cd crates/$@ && rt run < /dev/null > ../../target/$@.out 2> ../../target/$@.log || { cat ../../target/$@.log; exit 1; }
+	@cp crates/$@/out/$@ target/bin/$@
 
 # The host package, under target/hosts.
 hosts:

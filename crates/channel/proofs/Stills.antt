@@ -47,8 +47,8 @@ before_ticked x l = go (samples_in l.timing) (lines_steady x l) refl refl
     go false steady d e = rw d refl
 
 -- the tick of a channel, from what its lines told
-pub told_ticked : (x : Levels) (i expired : Bool) (c : Channel) (former : Option Levels) (l : Lines) (n : Input)
-    → former ≡ former_levels x c.lines → l ≡ lines_ticked x c.lines → n ≡ input_ticked i c.input
-    → worked (levels_before former l) (levels_of l) expired (seeing c l c.debounce n) ≡ channel_ticked x i expired c
+pub told_ticked : (x : Levels) (i expired : Bool) (c : Channel) (former : Option Levels) (before after : Levels) (l : Lines) (n : Input)
+    → former ≡ former_levels x c.lines → before ≡ levels_before former l → after ≡ levels_of l → l ≡ lines_ticked x c.lines
+    → n ≡ input_ticked i c.input → worked before after expired (seeing c l c.debounce n) ≡ channel_ticked x i expired c
 unfolding channel_ticked
-told_ticked x i expired c former l n p q r = rw (p, q, r, before_ticked x c.lines) refl
+told_ticked x i expired c former before after l n p b a q r = rw (b, a, p, q, r, before_ticked x c.lines) refl

@@ -10,7 +10,7 @@ use Rattle.controller.specs.Control.{format_of}
 use Rattle.controller.specs.Registers.{half_period}
 use Rattle.sensor.specs.Model.{Model, Sound, advanced, frame_of, level_of, turned}
 use Rattle.field.specs.Wiring.{FieldModel, Sounds, at_channel}
-use Rattle.field.specs.FieldLaws.{acts_at_lem, acts_elsewhere, turned_sounds}
+use Rattle.field.proofs.FieldLaws.{acts_at_lem, acts_elsewhere, turned_sounds}
 use Rattle.rig_parts.specs.Clocks.{clocked}
 use Rattle.rig_parts.proofs.ClockLaws.{clocked_at, clocked_sounds}
 use Rattle.rig_parts.proofs.LineLaws.{composed_in1}

@@ -1,4 +1,4 @@
 pub mod OwnSensor
+pub mod FieldsSound
 pub mod Plugging
 pub mod Wiring
-pub mod FieldLaws

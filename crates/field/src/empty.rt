@@ -1,6 +1,6 @@
 //! The field without a sensor.
 ghost use Rattle.field.specs.Wiring.{none_wired};
-ghost use Rattle.std.proofs.Common.{rules};
+ghost use Rattle.field.specs.FieldsSound.{none_sounds};
 
 use crate::field::Field;
 use sensor::refusal::FieldRefusal;
@@ -12,7 +12,7 @@ pub struct EmptyField;
 impl Field for EmptyField {
     ghost wired = { λ _. none_wired };
 
-    ghost sound = { Prim.search rules };
+    ghost sound = { λ _. none_sounds };
 
     fn level(&self, channel: u32) -> Option<bool> {
         None

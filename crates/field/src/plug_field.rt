@@ -3,7 +3,7 @@ ghost use Rattle.std.specs.Prelude.{◌≡◌, ◌<◌, ◌≤◌, MatchResult};
 ghost use Rattle.sensor.specs.Model.{reset_to};
 ghost use Rattle.field.specs.Plugging.{plug_model, not_plugged};
 ghost use Rattle.field.specs.Wiring.{plugged};
-ghost use Rattle.field.specs.FieldLaws.{plug_sounds};
+ghost use Rattle.field.specs.FieldsSound.{plug_sounds};
 
 use crate::field::Field;
 use crate::plug::Plug;

@@ -2,7 +2,7 @@
 use Rattle.std.specs.Prelude.{Bool, false, cond, not, ◌&&◌, ℕ}
 use Rattle.filter.specs.declared.samples.Samples.{Samples}
 use Rattle.filter.specs.declared.timing.FilterTiming.{FilterTiming}
-use Rattle.filter.specs.Filters.{line_filtered, new_timing, no_samples, samples_in, taken, ticked}
+use Rattle.filter.specs.Filters.{line_filtered, new_timing, no_samples, samples_in, ticked}
 use Rattle.parts.specs.declared.input.Input.{Input}
 use Rattle.parts.specs.Interrupts.{quiet, raised}
 
@@ -22,10 +22,6 @@ raised_by x y i = record {
   rising = raised (not x && y) i.rising;
   falling = raised (x && not y) i.falling;
 }
-
--- a sample, and the edges of the level
-abbrev pub sampled : Bool → Input → Input
-sampled x i = raised_by i.samples.level (taken x i.samples).level (with_filter i i.timing (taken x i.samples))
 
 -- the filter's samples after a tick
 abbrev pub sampled_input : Bool → Input → Samples

@@ -1,6 +1,6 @@
 //! A channel's 24 V input: its filter and its two edge interrupts.
 ghost use Rattle.std.specs.Prelude.{◌≡◌};
-ghost use Rattle.parts.specs.Inputs.{debounced_by, input_ticked, new_input, raised_by, sampled};
+ghost use Rattle.parts.specs.Inputs.{debounced_by, input_ticked, new_input, raised_by};
 
 use crate::interrupt::Interrupt;
 use filter::samples::Samples;
@@ -38,23 +38,14 @@ impl Input {
         self.falling.raise(before && !after);
     }
 
-    /// A sample, and the edge that it may make.
-    fn sample(&mut self, level: bool)
-        ensures { self.new ≡ sampled level self.old }
-    {
-        let before = self.samples.level;
-        self.samples.take(level);
-        self.raise_edges(before, self.samples.level);
-    }
-
     /// One tick with the input at the given level.
     pub fn tick(&mut self, level: bool)
         ensures { self.new ≡ input_ticked level self.old }
     {
-        // Most samples tell nothing new, and a look costs less than taking them.
-        if self.timing.tick() && !self.samples.is_steady(level) {
-            self.sample(level);
-        }
+        let before = self.samples.level;
+        let due = self.timing.tick();
+        self.samples.tick(due, level);
+        self.raise_edges(before, self.samples.level);
     }
 
     /// ADE and the shared period, as a write of the debouncing register sets them; the phase restarts.

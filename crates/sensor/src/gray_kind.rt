@@ -3,8 +3,7 @@ ghost use Rattle.std.specs.Prelude.{◌≡◌};
 ghost use Rattle.std.specs.Result.{result_map_both};
 ghost use Rattle.sensor.specs.Kinds.{gray_model};
 ghost use Rattle.sensor.specs.Model.{made};
-ghost use Rattle.std.proofs.Common.{rules};
-ghost use Rattle.frame.proofs.GrayWords.{ungray_below};
+ghost use Rattle.sensor.specs.KindsSound.{gray_sound};
 
 use crate::constants::Constants;
 use crate::gray::GraySensor;
@@ -32,7 +31,7 @@ impl GraySensor {
 impl Sensor for GraySensor {
     ghost meaning = { gray_model };
 
-    ghost sound = { λ s. record { ranged = Prim.search rules; below = ungray_below 32 _ s.word s.below; within = Prim.search rules } };
+    ghost sound = { gray_sound };
 
     fn level(&self) -> bool {
         self.register.level()

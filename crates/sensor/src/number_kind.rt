@@ -3,7 +3,7 @@ ghost use Rattle.std.specs.Prelude.{◌≡◌};
 ghost use Rattle.std.specs.Result.{result_map_both};
 ghost use Rattle.sensor.specs.Kinds.{number_model};
 ghost use Rattle.sensor.specs.Model.{made};
-ghost use Rattle.std.proofs.Common.{rules, arith};
+ghost use Rattle.sensor.specs.KindsSound.{number_sound};
 
 use crate::constants::Constants;
 use crate::number::NumberSensor;
@@ -30,7 +30,7 @@ impl NumberSensor {
 impl Sensor for NumberSensor {
     ghost meaning = { number_model };
 
-    ghost sound = { first_of (Prim.search rules, Prim.grind (arith, Self.row.coded.inj)) };
+    ghost sound = { number_sound };
 
     fn level(&self) -> bool {
         self.register.level()

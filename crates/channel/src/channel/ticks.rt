@@ -1,6 +1,5 @@
 //! What a tick does to a channel.
 ghost use Rattle.std.specs.Prelude.{◌≡◌};
-ghost use Rattle.channel.specs.Lines.{levels_before, levels_of};
 ghost use Rattle.channel.specs.Ticks.{channel_ticked, counted, finished, new_channel, raised_both, requested, ssi_worked, timer_requested, transmitted, waits, worked};
 
 use super::Channel;
@@ -82,20 +81,18 @@ impl Channel {
         }
     }
 
-    /// Counter Mode in a tick that may have changed the levels.
-    fn count(&mut self, before: Levels)
-        ensures { self.new ≡ counted before (levels_of self.old.lines) self.old }
+    fn count(&mut self, before: Levels, after: Levels)
+        ensures { self.new ≡ counted before after self.old }
     {
-        let after = self.lines.levels();
         let causes = self.counter.tick(before, after);
         self.raise(causes.matched, causes.control);
     }
 
     /// Counter Mode in a tick that left the levels as they were.
-    fn count_at_rest(&mut self)
-        ensures { self.new ≡ counted (levels_of self.old.lines) (levels_of self.old.lines) self.old }
+    fn count_at_rest(&mut self, levels: Levels)
+        ensures { self.new ≡ counted levels levels self.old }
     {
-        let matched = self.counter.rest(self.lines.levels());
+        let matched = self.counter.rest(levels);
         self.valid.raise(matched);
     }
 
@@ -121,15 +118,25 @@ impl Channel {
         }
     }
 
-    /// The working part's tick; `former` has the levels before it where they may have changed.
-    fn work(&mut self, former: Option<Levels>, expired: bool)
-        ensures { self.new ≡ worked (levels_before former self.old.lines) (levels_of self.old.lines) expired self.old }
+    /// The working part's tick, with the levels before it and after it.
+    fn work(&mut self, before: Levels, after: Levels, expired: bool)
+        ensures { self.new ≡ worked before after expired self.old }
     {
-        match (self.mode, former) {
-            (Mode::Off(_), _) => {}
-            (Mode::Counter, Some(before)) => self.count(before),
-            (Mode::Counter, None) => self.count_at_rest(),
-            (Mode::Ssi(_), _) => self.work_ssi(self.lines.b.level, expired),
+        match self.mode {
+            Mode::Off(_) => {}
+            Mode::Counter => self.count(before, after),
+            Mode::Ssi(_) => self.work_ssi(after.b, expired),
+        }
+    }
+
+    /// The working part's tick where it left the levels as they were.
+    fn work_at_rest(&mut self, levels: Levels, expired: bool)
+        ensures { self.new ≡ worked levels levels expired self.old }
+    {
+        match self.mode {
+            Mode::Off(_) => {}
+            Mode::Counter => self.count_at_rest(levels),
+            Mode::Ssi(_) => self.work_ssi(levels.b, expired),
         }
     }
 
@@ -139,6 +146,10 @@ impl Channel {
     {
         let former = self.lines.tick(lines);
         self.input.tick(input);
-        self.work(former, expired);
+        let after = self.lines.levels();
+        match former {
+            Some(before) => self.work(before, after, expired),
+            None => self.work_at_rest(after, expired),
+        }
     }
 }

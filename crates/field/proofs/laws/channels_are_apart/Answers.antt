@@ -1,4 +1,4 @@
-use Rattle.field.specs.FieldLaws.{own_sensor}
+use Rattle.field.proofs.FieldLaws.{own_sensor}
 use Rattle.field.proofs.laws.channels_are_apart.Goals as goal
 
 pub returns : goal.returns

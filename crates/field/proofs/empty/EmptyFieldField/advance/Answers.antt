@@ -1,4 +1,4 @@
-use Rattle.field.specs.FieldLaws.{none_acts}
+use Rattle.field.proofs.FieldLaws.{none_acts}
 use Rattle.field.proofs.empty.EmptyFieldField.advance.Goals as goal
 
 pub returns : goal.returns

@@ -1,5 +1,5 @@
 use Rattle.std.proofs.Common.{refl}
-use Rattle.field.specs.FieldLaws.{none_acts}
+use Rattle.field.proofs.FieldLaws.{none_acts}
 use Rattle.field.proofs.empty.EmptyFieldField.turn.Goals as goal
 
 pub returns : goal.returns

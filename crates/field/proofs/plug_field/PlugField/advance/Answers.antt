@@ -1,4 +1,4 @@
-use Rattle.field.specs.FieldLaws.{acts_here, acts_below}
+use Rattle.field.proofs.FieldLaws.{acts_here, acts_below}
 use Rattle.field.proofs.plug_field.PlugField.advance.Goals as goal
 
 pub returns-then-channel-self : goal.returns-then-channel-self

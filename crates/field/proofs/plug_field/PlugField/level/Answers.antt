@@ -1,4 +1,4 @@
-use Rattle.field.specs.FieldLaws.{level_here, level_below}
+use Rattle.field.proofs.FieldLaws.{level_here, level_below}
 use Rattle.field.proofs.plug_field.PlugField.level.Goals as goal
 
 pub returns-then-channel-self : goal.returns-then-channel-self

@@ -1,4 +1,4 @@
-use Rattle.field.specs.FieldLaws.{answer_here, answer_below, acts_here, acts_below}
+use Rattle.field.proofs.FieldLaws.{answer_here, answer_below, acts_here, acts_below}
 use Rattle.field.proofs.plug_field.PlugField.turn.Goals as goal
 
 pub returns-then-channel-self : goal.returns-then-channel-self

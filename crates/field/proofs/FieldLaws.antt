@@ -9,6 +9,7 @@ use Rattle.sensor.specs.Model.{Model, Sound, advanced, level_of, turn_answer, tu
 use Rattle.sensor.specs.Sending.{Act, acted, after}
 use Rattle.sensor.proofs.Soundness.{advanced_sound, turned_sound}
 use Rattle.field.specs.OwnSensor.{acts_at, OwnSensor}
+use Rattle.field.specs.FieldsSound.{plug_below}
 use Rattle.field.specs.Wiring.{FieldModel, Sounds, none_wired, advanced_at, at_channel, level_at, plugged, turn_answer_at, turned_at}
 
 same_either : {X : Type 0} (b : Bool) (x : X) → x ≡ cond b x x
@@ -33,10 +34,6 @@ acts_elsewhere f k j act ne = rw (ne_eqb j k ne)
 pub plug_here : (k ch : ℕ) (m : Model) (f : FieldModel) → ch ≡ k → plugged k m f ch ≡ Some m
 unfolding plugged
 plug_here k ch m f e = rw (eq-eqb ch k e)
-
-pub plug_below : (k ch : ℕ) (m : Model) (f : FieldModel) → (ch ≢ k) → plugged k m f ch ≡ f ch
-unfolding plugged
-plug_below k ch m f ne = rw (ne_eqb ch k ne)
 
 acts_on : (act : Model → Model) (b : Bool) (m m' : Model) (o : Option Model) → m' ≡ act m → cond b (Some m') o ≡ cond b (option_map act (cond b (Some m) o)) (cond b (Some m) o)
 acts_on act true m m' o e = ap Some e
@@ -68,18 +65,6 @@ answer_here k ch p m f r e h = rw (plug_here k ch m f e) h
 
 pub answer_below : (k ch p : ℕ) (m : Model) (f : FieldModel) (r : Result (Unit {0}) FieldRefusal) → (ch ≢ k) → r ≡ turn_answer_at f ch p → r ≡ turn_answer_at (plugged k m f) ch p
 answer_below k ch p m f r ne h = rw (plug_below k ch m f ne) h
-
-sound_either : (b : Bool) (m : Model) (o : Option Model) → Sound m → IfSome o Sound → IfSome (cond b (Some m) o) Sound
-sound_either true m o s h = s
-sound_either false m o s h = h
-
--- a sound sensor over a sound field
-pub plug_sounds : (k : ℕ) (m : Model) (f : FieldModel) → k < 8 → Sound m → Sounds f → Sounds (plugged k m f)
-unfolding plugged
-plug_sounds k m f low s h = record {
-  each = λ j. sound_either (j == k) m (f j) s (h.each j);
-  above = λ j high. plug_below k j m f (λ e. omega arith) ∙ h.above j high;
-}
 
 act_sounds : (act : Model → Model) (b : Bool) (o : Option Model) → ((m : Model) → Sound m → Sound (act m)) → IfSome o Sound → IfSome (cond b (option_map act o) o) Sound
 act_sounds act true None keeps h = tt
