@@ -1,7 +1,7 @@
 -- Writes of shared registers.
 use Rattle.std.specs.Prelude.{ℕ, cond, ◌==◌}
 use Rattle.filter.specs.Debounces.{debounce_of, period_of}
-use Rattle.timer.specs.Timers.{control_written as timerWritten, preload_written as timerPreloaded}
+use Rattle.timer.specs.Timers.{control_written as timer_written, preload_written as timer_preloaded}
 use Rattle.channel.specs.declared.act.Act.{Act}
 use Rattle.channel.specs.declared.act.Act.TheVariants.{Control, DebounceInput, Output, EnableInterrupts, AcknowledgeInterrupts, EnableEdges, AcknowledgeEdges, TestOutput}
 use Rattle.table.specs.Tables.{acted}
@@ -42,8 +42,8 @@ shared_written o v c =
     cond (o == 340) (inputs_debounced v c) (
     cond (o == 352) (with_shared (outputs_enabled v c.shared) c) (
     cond (o == 356) (on_all (Output v) c) (
-    cond (o == 368) (with_shared (with_timer (timerWritten v c.shared.timer) c.shared.timer_interrupt c.shared) c) (
-    cond (o == 372) (with_shared (with_timer (timerPreloaded v c.shared.timer) c.shared.timer_interrupt c.shared) c) (
+    cond (o == 368) (with_shared (with_timer (timer_written v c.shared.timer) c.shared.timer_interrupt c.shared) c) (
+    cond (o == 372) (with_shared (with_timer (timer_preloaded v c.shared.timer) c.shared.timer_interrupt c.shared) c) (
     cond (o == 384) (interrupts_enabled v c) (
     cond (o == 388) (on_all (EnableEdges v) c) (
     cond (o == 392) (unless_cleared (acknowledged_all v c) c) (

@@ -1,8 +1,8 @@
 -- Shared registers as they read.
 use Rattle.std.specs.Prelude.{ℕ, ◌+◌, Bool, cond, not, List, ◌==◌, bit_and}
 use Rattle.bits.specs.Words.{bit_at, field_at}
-use Rattle.filter.specs.Debounces.{word_of_debounce as debounceFields}
-use Rattle.timer.specs.Timers.{word_of_control as timerWord}
+use Rattle.filter.specs.Debounces.{word_of_debounce as debounce_fields}
+use Rattle.timer.specs.Timers.{word_of_control as timer_word}
 use Rattle.channel.specs.declared.act.Bit.{Bit}
 use Rattle.channel.specs.declared.act.Bit.TheVariants.{SnapshotEnabled, Input, InputDebounced, Output, ValidEnabled, ValidPending, FaultEnabled, FaultPending, RisingEnabled, RisingPending, FallingEnabled, FallingPending, TestOutput, Clock}
 use Rattle.channel.specs.declared.act.Share.TheVariants.{Mode, Lines, Single}
@@ -24,7 +24,7 @@ word_of_control c = gathered Mode c.channels + field_at 16 (gathered (Single Sna
 
 -- 24 V Input Debouncing: DEB TIME 15:0, DEB BASE 17:16, ADE 31:24
 abbrev pub word_of_debounce : Card → ℕ
-word_of_debounce c = debounceFields c.shared.input_debounce + field_at 24 (gathered (Single InputDebounced) c.channels)
+word_of_debounce c = debounce_fields c.shared.input_debounce + field_at 24 (gathered (Single InputDebounced) c.channels)
 
 -- the outputs that are on: DO under DOEN
 abbrev pub outputs_driven : Card → ℕ
@@ -62,7 +62,7 @@ register_word o c =
     cond (o == 352) (word_of_enables c.shared) (
     cond (o == 356) (gathered (Single Output) c.channels) (
     cond (o == 360) (outputs_driven c) (
-    cond (o == 368) (timerWord c.shared.timer) (
+    cond (o == 368) (timer_word c.shared.timer) (
     cond (o == 372) c.shared.timer.preload (
     cond (o == 376) c.shared.timer.left (
     cond (o == 384) (enables_of_interrupts c) (

@@ -9,7 +9,7 @@ use Rattle.counter.specs.declared.counter.Counter.{Counter}
 use Rattle.counter.specs.Registers.{control_answer, control_written, flags_settled, settled_answer}
 use Rattle.controller.specs.Control.{control_of, control_refused}
 use Rattle.controller.specs.declared.registers.Ssi.{Ssi}
-use Rattle.controller.specs.Registers.{control_answer as ssiControlAnswer, control_written as ssiControlWritten, with_control}
+use Rattle.controller.specs.Registers.{control_answer as ssi_control_answer, control_written as ssi_control_written, with_control}
 use Rattle.channel.specs.declared.channel.Channel.{Channel}
 use Rattle.channel.specs.Records.{with_counter, with_ssi}
 use Rattle.channel.specs.Registers.{register_answer, register_written}
@@ -36,14 +36,14 @@ ssi_settled : (b : Bool) (v : ℕ) (s : Ssi) (e : Refusal) → cond {A = Result 
 ssi_settled true v s e q = refl
 ssi_settled false v s e q = let z : ◌≡◌ {A = ℕ} 0 1 = cc in absurd (omega arith)
 
-pub ssi_leaves : (v : ℕ) (s : Ssi) (e : Refusal) → ssiControlAnswer v ≡ Err e → ssiControlWritten v s ≡ s
-unfolding ssiControlWritten
+pub ssi_leaves : (v : ℕ) (s : Ssi) (e : Refusal) → ssi_control_answer v ≡ Err e → ssi_control_written v s ≡ s
+unfolding ssi_control_written
 ssi_leaves v s e q = ssi_settled (control_refused v) v s e q
 
 -- what the first two tests of a write give
 at_control : (x y : Bool) (v : ℕ) (c w : Channel) (e : Refusal)
-    → cond x (ssiControlAnswer v) (cond y (control_answer v) (Ok tt)) ≡ Err e
-    → cond x (with_ssi (ssiControlWritten v c.ssi) c) (cond y (with_counter (control_written v c.counter) c) w) ≡ c
+    → cond x (ssi_control_answer v) (cond y (control_answer v) (Ok tt)) ≡ Err e
+    → cond x (with_ssi (ssi_control_written v c.ssi) c) (cond y (with_counter (control_written v c.counter) c) w) ≡ c
 at_control true y v c w e q = ap (λ (s : Ssi). with_ssi s c) (ssi_leaves v c.ssi e q)
 at_control false true v c w e q = ap (λ (n : Counter). with_counter n c) (counter_leaves v c.counter e q)
 at_control false false v c w e q = let z : ◌≡◌ {A = ℕ} 0 1 = cc in absurd (omega arith)

@@ -6,9 +6,9 @@ use Rattle.counter_control.specs.Words.{word_of_control}
 use Rattle.counter.specs.Registers.{commanded, command_matches, compare_written, control_answer, control_written, data_read, data_word, preload_written, status_cleared, status_shown}
 use Rattle.controller.specs.declared.control.Start.{Start}
 use Rattle.controller.specs.declared.control.Start.TheVariants.{Request, Timer}
-use Rattle.controller.specs.Control.{word_of_control as ssiControlWord}
+use Rattle.controller.specs.Control.{word_of_control as ssi_control_word}
 use Rattle.controller.specs.Phase.{active_in, busy_in}
-use Rattle.controller.specs.Registers.{control_answer as ssiControlAnswer, control_written as ssiControlWritten, status_word as ssiStatusWord}
+use Rattle.controller.specs.Registers.{control_answer as ssi_control_answer, control_written as ssi_control_written, status_word as ssi_status_word}
 use Rattle.parts.specs.Interrupts.{raised}
 use Rattle.channel.specs.declared.mode.Mode.{Mode}
 use Rattle.channel.specs.declared.mode.Mode.TheVariants.{Off, Counter as Counting, Ssi as Reading}
@@ -43,13 +43,13 @@ is_taking_requests c = takes_requests_at c.ssi.control.start
 
 -- a write is refused for what it sets in a control register, whatever the channel is doing
 abbrev pub register_answer : ℕ → ℕ → Result (Unit {0}) Refusal
-register_answer o v = cond (o == 0) (ssiControlAnswer v) (cond (o == 8) (control_answer v) (Ok tt))
+register_answer o v = cond (o == 0) (ssi_control_answer v) (cond (o == 8) (control_answer v) (Ok tt))
 
 -- a write: 0x00 SSI Mode Control, 0x08 Counter Mode Control, 0x0C Counter Mode Status, 0x10 Preload, 0x14 Compare,
 -- 0x18 Counter Mode Command (in Counter Mode alone), 0x1C Debouncing, 0x20 Data (a request at START 00); others ignore it
 unfoldable pub register_written : ℕ → ℕ → Channel → Channel
 register_written o v c =
-    cond (o == 0) (with_ssi (ssiControlWritten v c.ssi) c) (
+    cond (o == 0) (with_ssi (ssi_control_written v c.ssi) c) (
     cond (o == 8) (with_counter (control_written v c.counter) c) (
     cond (o == 12) (with_counter (status_cleared v c.counter) c) (
     cond (o == 16) (with_counter (preload_written v c.counter) c) (
@@ -78,9 +78,9 @@ data_taken c = data_taken_as c.mode c
 
 -- outside SSI mode BSY and SENSOR STATUS are 0
 abbrev pub ssi_status_shown_as : Mode → Channel → ℕ
-ssi_status_shown_as (Off z) c = ssiStatusWord false false c.ssi
-ssi_status_shown_as Counting c = ssiStatusWord false false c.ssi
-ssi_status_shown_as (Reading p) c = ssiStatusWord (active_in p) (busy_in p) c.ssi
+ssi_status_shown_as (Off z) c = ssi_status_word false false c.ssi
+ssi_status_shown_as Counting c = ssi_status_word false false c.ssi
+ssi_status_shown_as (Reading p) c = ssi_status_word (active_in p) (busy_in p) c.ssi
 
 abbrev pub ssi_status_shown : Channel → ℕ
 ssi_status_shown c = ssi_status_shown_as c.mode c
@@ -88,7 +88,7 @@ ssi_status_shown c = ssi_status_shown_as c.mode c
 -- a read; the Counter Mode Command Register, 0x18, and the reserved word, 0x24, read 0
 unfoldable pub register_shown : ℕ → Channel → ℕ
 register_shown o c =
-    cond (o == 0) (ssiControlWord c.ssi.control) (
+    cond (o == 0) (ssi_control_word c.ssi.control) (
     cond (o == 4) (ssi_status_shown c) (
     cond (o == 8) (word_of_control c.counter.count.control) (
     cond (o == 12) (status_shown c.counter) (

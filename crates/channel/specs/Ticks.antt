@@ -9,7 +9,7 @@ use Rattle.controller.specs.declared.phase.Phase.{Phase}
 use Rattle.controller.specs.declared.phase.Phase.TheVariants.{Waiting, Clocking, Recovering}
 use Rattle.controller.specs.declared.registers.Completed.{Completed}
 use Rattle.controller.specs.Phase.{phase_ticked}
-use Rattle.controller.specs.Registers.{completion, phase_requested, powered_on as powerOnSsi, requested as ssiRequested, ticked as ssiTicked}
+use Rattle.controller.specs.Registers.{completion, phase_requested, powered_on as power_on_ssi, requested as ssi_requested, ticked as ssi_ticked}
 use Rattle.parts.specs.Inputs.{input_ticked, new_input}
 use Rattle.parts.specs.Interrupts.{quiet, raised}
 use Rattle.parts.specs.Snapshots.{completed, emptied}
@@ -28,7 +28,7 @@ new_channel = record {
   input = new_input;
   mode = Off Zeros;
   counter = power_on_counter;
-  ssi = powerOnSsi;
+  ssi = power_on_ssi;
   snapshot = emptied;
   valid = quiet;
   fault = quiet;
@@ -49,7 +49,7 @@ finished (Some d) c = with_snapshot (completed d.word c.snapshot) (raised_both t
 abbrev pub requested_as : Mode → Channel → Channel
 requested_as (Off z) c = c
 requested_as Counting c = c
-requested_as (Reading p) c = with_mode (Reading (phase_requested c.ssi p)) (with_ssi (ssiRequested p c.ssi) c)
+requested_as (Reading p) c = with_mode (Reading (phase_requested c.ssi p)) (with_ssi (ssi_requested p c.ssi) c)
 
 abbrev pub requested : Channel → Channel
 requested c = requested_as c.mode c
@@ -70,7 +70,7 @@ counted x y c = raised_both (tick_causes x y c.counter).matched (tick_causes x y
 abbrev pub transmitted_as : Mode → Bool → Channel → Channel
 transmitted_as (Off z) x c = c
 transmitted_as Counting x c = c
-transmitted_as (Reading p) x c = finished (completion x p) (with_mode (Reading (phase_ticked x p)) (with_ssi (ssiTicked x p c.ssi) c))
+transmitted_as (Reading p) x c = finished (completion x p) (with_mode (Reading (phase_ticked x p)) (with_ssi (ssi_ticked x p c.ssi) c))
 
 abbrev pub transmitted : Bool → Channel → Channel
 transmitted x c = transmitted_as c.mode x c

@@ -7,7 +7,7 @@ use Rattle.counter_control.specs.declared.control.Control.{Control}
 use Rattle.counter_control.specs.Words.{decoded}
 use Rattle.counter_count.specs.declared.count.Outcome.TheVariants.{Loaded}
 use Rattle.counter_count.specs.Counts.{command_outcome, preloaded, restarted}
-use Rattle.counter_count.specs.Counts.{commanded as countCommanded, configured as countConfigured, control_written as countControlWritten, preload_loaded as countPreloadLoaded}
+use Rattle.counter_count.specs.Counts.{commanded as count_commanded, configured as count_configured, control_written as count_control_written, preload_loaded as count_preload_loaded}
 use Rattle.counter.specs.declared.flags.Flags.{Flags}
 use Rattle.counter.specs.declared.counter.Counter.{Counter}
 use Rattle.counter.specs.Status.{cleared_by, released, status_word, with_lock}
@@ -20,7 +20,7 @@ lock_at m k f = with_lock (f.locked && not (latches m && not (latches k.index)))
 -- new settings
 abbrev pub configured : Control → Counter → Counter
 configured k c = record {
-  count = countConfigured k c.count;
+  count = count_configured k c.count;
   compare = c.compare;
   latched = c.latched;
   flags = lock_at c.count.control.index k c.flags;
@@ -39,7 +39,7 @@ settled_answer (Err e) = Err e
 -- a Counter Mode Control write, and its answer
 unfoldable pub control_written : ℕ → Counter → Counter
 control_written w c = record {
-  count = countControlWritten w c.count;
+  count = count_control_written w c.count;
   compare = c.compare;
   latched = c.latched;
   flags = flags_settled (decoded w) c.count.control.index c.flags;
@@ -67,7 +67,7 @@ compare_written w c = record { count = c.count; compare = w; latched = c.latched
 -- the count after a command word, whose bit 0, RCNT, releases the lock
 abbrev pub command_taken : ℕ → Counter → Counter
 command_taken w c = record {
-  count = countCommanded w c.count;
+  count = count_commanded w c.count;
   compare = c.compare;
   latched = c.latched;
   flags = cond (word_flag w 0) (released c.flags) c.flags;
@@ -82,10 +82,10 @@ command_matches w c = match_cause (command_outcome w) (command_taken w c)
 
 -- LCNT of the shared command register in Counter Mode, and whether the load ended at compare
 unfoldable pub preload_loaded : Counter → Counter
-preload_loaded c = marked Loaded (with_count (countPreloadLoaded c.count) c)
+preload_loaded c = marked Loaded (with_count (count_preload_loaded c.count) c)
 
 unfoldable pub preload_matches : Counter → Bool
-preload_matches c = match_cause Loaded (with_count (countPreloadLoaded c.count) c)
+preload_matches c = match_cause Loaded (with_count (count_preload_loaded c.count) c)
 
 -- the channel enters Counter Mode
 unfoldable pub entered : Counter → Counter

@@ -6,13 +6,13 @@ use Rattle.runs.specs.declared.Call.{Call}
 use Rattle.runs.specs.declared.Call.TheVariants.{Tick, Read, Write}
 use Rattle.tally.specs.Tally.{Tally, tally_enter, tally_load}
 use Rattle.tally.proofs.Stands.{tally_stands_lem}
-use Rattle.counts.specs.Tallies.{ChannelTally, Setting, off, counting, reading, enters, is_counter_mode, register_at, setting_at, tally_loaded, tally_step}
+use Rattle.counts.specs.Tallies.{ChannelTally, Setting, off, counting, reading, enters, in_counter_mode, register_at, setting_at, tally_loaded, tally_step}
 use Rattle.counts.specs.Laws.{Fits}
 
 abbrev pub Small : ChannelTally → Type 0
 Small t = t.counter.preload < 2 ^ 32
 
-small_when : (s : Setting) (new old : Tally) → new.preload ≡ old.preload → old.preload < 2 ^ 32 → (is_counter_mode s new old).preload < 2 ^ 32
+small_when : (s : Setting) (new old : Tally) → new.preload ≡ old.preload → old.preload < 2 ^ 32 → (in_counter_mode s new old).preload < 2 ^ 32
 small_when off new old e b = b
 small_when counting new old e b = omega arith
 small_when reading new old e b = b

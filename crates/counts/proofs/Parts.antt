@@ -27,7 +27,7 @@ use Rattle.channel.specs.Modes.{became_counter, became_off, became_ssi, departed
 use Rattle.channel.specs.Shares.{loaded_by, performed}
 use Rattle.channel.specs.Snapshots.{snapped, ssi_snapped_as}
 use Rattle.channel.specs.Ticks.{channel_ticked, finished, observed, requested, timer_requested, timer_requested_as, transmitted, waits_at, worked}
-use Rattle.counts.specs.Tallies.{Setting, off, counting, reading, enters, is_counter_mode, setting_at}
+use Rattle.counts.specs.Tallies.{Setting, off, counting, reading, enters, in_counter_mode, setting_at}
 
 -- the filters of the lines, the mode without the controller's phase, and the count
 pub record Part : Type 0 where
@@ -87,7 +87,7 @@ mode_part n c = go (eqb n 0) (eqb n 1) (eqb n 2)
 
 -- LCNT
 abbrev pub part_loaded : Bool → Part → Part
-part_loaded one p = cond one (with_count (is_counter_mode p.mode (preload_loaded p.count) p.count) p) p
+part_loaded one p = cond one (with_count (in_counter_mode p.mode (preload_loaded p.count) p.count) p) p
 
 loaded_part : (one : Bool) (m : Mode) (c : Channel) → part (loaded_by one (with_mode m c)) ≡ part_loaded one (part (with_mode m c))
 unfolding register.preload_loaded
@@ -141,7 +141,7 @@ performed_part (TestOutput w) k c = refl
 
 -- the working part's tick, from the filtered levels x to y
 abbrev pub part_worked : Levels → Levels → Part → Part
-part_worked x y p = with_count (is_counter_mode p.mode (count_ticked x y p.count) p.count) p
+part_worked x y p = with_count (in_counter_mode p.mode (count_ticked x y p.count) p.count) p
 
 abbrev pub part_ticked : Levels → Part → Part
 part_ticked x p = part_worked (levels_of p.lines) (levels_of (lines_ticked x p.lines)) (record { lines = lines_ticked x p.lines; mode = p.mode; count = p.count })

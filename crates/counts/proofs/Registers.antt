@@ -10,7 +10,7 @@ use Rattle.channel.specs.declared.channel.Channel.{Channel}
 use Rattle.channel.specs.Lines.{lines_restarted}
 use Rattle.channel.specs.Records.{with_mode}
 use Rattle.channel.specs.Registers.{command_written, data_taken, is_counter_mode, register_taken, register_written, is_taking_requests}
-use Rattle.counts.specs.Tallies.{is_counter_mode as whenCounting}
+use Rattle.counts.specs.Tallies.{in_counter_mode as when_counting}
 use Rattle.counts.proofs.Parts.{Part, alike, part, requested_part, with_count}
 
 -- the filters restart with a period
@@ -18,7 +18,7 @@ abbrev pub part_debounced : ℕ → Part → Part
 part_debounced v p = record { lines = lines_restarted (period_of (debounce_of v)) p.lines; mode = p.mode; count = p.count }
 
 abbrev pub part_commanded : ℕ → Part → Part
-part_commanded v p = with_count (whenCounting p.mode (commanded v p.count) p.count) p
+part_commanded v p = with_count (when_counting p.mode (commanded v p.count) p.count) p
 
 -- a write at a place in the channel's span
 abbrev pub part_written : ℕ → ℕ → Part → Part

@@ -6,7 +6,7 @@ use Rattle.counter_count.specs.Counts.{control_written}
 use Rattle.channel.specs.Lines.{levels_of, lines_ticked}
 use Rattle.tally.specs.Tally.{Tally, stands, tally_command, tally_control, tally_load, tally_tick}
 use Rattle.tally.proofs.Stands.{tally_stands_lem}
-use Rattle.counts.specs.Tallies.{ChannelTally, Setting, off, counting, reading, enters, is_counter_mode, tally_loaded, tally_mode, tally_ticked, with_tally}
+use Rattle.counts.specs.Tallies.{ChannelTally, Setting, off, counting, reading, enters, in_counter_mode, tally_loaded, tally_mode, tally_ticked, with_tally}
 use Rattle.counts.proofs.Parts.{Part, part_loaded, part_mode, part_ticked, with_count}
 use Rattle.counts.proofs.Registers.{part_commanded}
 
@@ -20,7 +20,7 @@ pushed f true p q = p
 pushed f false p q = q
 
 -- what only Counter Mode does
-heeded : (s : Setting) (new old : Tally) {n : Count} → stands new ≡ n → stands (is_counter_mode s new old) ≡ is_counter_mode s n (stands old)
+heeded : (s : Setting) (new old : Tally) {n : Count} → stands new ≡ n → stands (in_counter_mode s new old) ≡ in_counter_mode s n (stands old)
 heeded off new old e = refl
 heeded counting new old e = e
 heeded reading new old e = refl
@@ -39,7 +39,7 @@ pub control_stands : (v : ℕ) (t : ChannelTally) → standing (with_tally (tall
 control_stands v t = at_count (standing t) (tally_stands_lem.control v t.counter)
 
 pub command_stands : (v : ℕ) (t : ChannelTally) → t.counter.preload < 2 ^ 32
-    → standing (with_tally (is_counter_mode t.mode (tally_command v t.counter) t.counter) t) ≡ part_commanded v (standing t)
+    → standing (with_tally (in_counter_mode t.mode (tally_command v t.counter) t.counter) t) ≡ part_commanded v (standing t)
 command_stands v t h = at_count (standing t) (heeded t.mode (tally_command v t.counter) t.counter (tally_stands_lem.command v t.counter h))
 
 pub tick_stands : (x : Levels) (t : ChannelTally) → t.counter.preload < 2 ^ 32 → standing (tally_ticked x t) ≡ part_ticked x (standing t)

@@ -31,8 +31,8 @@ is_counting counting = true
 is_counting reading = false
 
 -- what only Counter Mode does
-abbrev pub is_counter_mode : {A : Type 0} → Setting → A → A → A
-is_counter_mode s new old = cond (is_counting s) new old
+abbrev pub in_counter_mode : {A : Type 0} → Setting → A → A → A
+in_counter_mode s new old = cond (is_counting s) new old
 
 -- Counter Mode is entered from another mode
 abbrev pub enters : Setting → Setting → Bool
@@ -54,7 +54,7 @@ abbrev pub tally_ticked : Levels → ChannelTally → ChannelTally
 tally_ticked x t = record {
   mode = t.mode;
   lines = lines_ticked x t.lines;
-  counter = is_counter_mode t.mode (tally_tick (levels_of t.lines) (levels_of (lines_ticked x t.lines)) t.counter) t.counter;
+  counter = in_counter_mode t.mode (tally_tick (levels_of t.lines) (levels_of (lines_ticked x t.lines)) t.counter) t.counter;
 }
 
 -- MODE as written: the divider restarts where Counter Mode is entered
@@ -63,7 +63,7 @@ tally_mode s t = record { mode = s; lines = t.lines; counter = cond (enters t.mo
 
 -- LCNT of Global Command
 abbrev pub tally_loaded : Bool → ChannelTally → ChannelTally
-tally_loaded one t = cond one (with_tally (is_counter_mode t.mode (tally_load t.counter) t.counter) t) t
+tally_loaded one t = cond one (with_tally (in_counter_mode t.mode (tally_load t.counter) t.counter) t) t
 
 -- a debouncing write restarts the filters with its period
 abbrev pub tally_debounced : ℕ → ChannelTally → ChannelTally
@@ -78,7 +78,7 @@ abbrev pub own_written : ℕ → ℕ → ℕ → ChannelTally → ChannelTally
 own_written k o v t =
     cond (o == register_at k 8) (with_tally (tally_control v t.counter) t) (
     cond (o == register_at k 16) (with_tally (tally_preload v t.counter) t) (
-    cond (o == register_at k 24) (with_tally (is_counter_mode t.mode (tally_command v t.counter) t.counter) t) (
+    cond (o == register_at k 24) (with_tally (in_counter_mode t.mode (tally_command v t.counter) t.counter) t) (
     cond (o == register_at k 28) (tally_debounced v t) t)))
 
 -- a write: Global Control at 0, Global Command at 4, else channel k's own registers

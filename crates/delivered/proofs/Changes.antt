@@ -12,7 +12,7 @@ use Rattle.controller.specs.declared.phase.Phase.{Phase}
 use Rattle.controller.specs.declared.phase.Phase.TheVariants.{Waiting, Clocking, Recovering}
 use Rattle.controller.specs.declared.registers.Ssi.{Ssi}
 use Rattle.controller.specs.Phase.{busy_in}
-use Rattle.controller.specs.Registers.{phase_requested, requested as ssiRequested, with_busy}
+use Rattle.controller.specs.Registers.{phase_requested, requested as ssi_requested, with_busy}
 use Rattle.parts.specs.declared.snapshot.Snapshot.{Snapshot as Part}
 use Rattle.parts.specs.Snapshots.{completed}
 use Rattle.channel.specs.declared.act.Act.{Act}
@@ -66,8 +66,8 @@ snapshot_too s (ended m l) = ended m l
 snapshot_too s (restarted r v m l) = restarted r v m l
 
 -- a request leaves the settings
-requested_control : (p : Phase) (i : Ssi) → (ssiRequested p i).control ≡ i.control
-unfolding ssiRequested
+requested_control : (p : Phase) (i : Ssi) → (ssi_requested p i).control ≡ i.control
+unfolding ssi_requested
 requested_control Waiting i = cond_both (eqb i.control.rate 0) i (with_busy i false) (λ j. j.control ≡ i.control) (λ _. refl) (λ _. refl)
 requested_control (Clocking t) i = refl
 requested_control (Recovering n) i = refl

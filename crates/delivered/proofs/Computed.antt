@@ -4,7 +4,7 @@ use Rattle.std.proofs.lemmas.Bool.{and_parts, ne_eqb}
 use Rattle.filter.specs.Filters.{samples_in, ticked}
 use Rattle.frame.specs.Layout.{word_of_frame, reading_of}
 use Rattle.controller.specs.Phase.{phase_ticked}
-use Rattle.controller.specs.Registers.{control_written, requested, phase_requested, completion, ticked as ssiTicked}
+use Rattle.controller.specs.Registers.{control_written, requested, phase_requested, completion, ticked as ssi_ticked}
 use Rattle.sensor.specs.Range.{in_range}
 use Rattle.sensor.specs.Model.{Sound, advanced, level_of, turned}
 use Rattle.field.specs.Wiring.{at_channel, plugged}
@@ -39,7 +39,7 @@ sound_or_none false true = at_two_sound
 sound_or_none false false = tt
 
 pub delivers_two : DeliversTwo
-unfolding plugged samples_in ticked word_of_frame reading_of phase_ticked control_written requested phase_requested completion ssiTicked advanced level_of turned at_channel clocked composed register_shown register_taken register_written bit_of performed share_of channel_ticked acted gathered table_ticked powered_on read_done tick_done tick_levels write_done
+unfolding plugged samples_in ticked word_of_frame reading_of phase_ticked control_written requested phase_requested completion ssi_ticked advanced level_of turned at_channel clocked composed register_shown register_taken register_written bit_of performed share_of channel_ticked acted gathered table_ticked powered_on read_done tick_done tick_levels write_done
 delivers_two = record {
   sounds = record { each = λ k. sound_or_none (eqb k 0) (eqb k 3); above = λ k h. rw (ne_eqb k 0 (λ e. omega arith), ne_eqb k 3 (λ e. omega arith)) refl };
   completes = record {

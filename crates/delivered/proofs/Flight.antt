@@ -13,7 +13,7 @@ use Rattle.controller.specs.declared.phase.Phase.{Phase}
 use Rattle.controller.specs.declared.phase.Phase.TheVariants.{Clocking, Recovering}
 use Rattle.controller.specs.declared.registers.Ssi.{Ssi}
 use Rattle.controller.specs.Phase.{busy_in, clock_of, phase_ticked, pushed}
-use Rattle.controller.specs.Registers.{started, ticked as ssiTicked}
+use Rattle.controller.specs.Registers.{started, ticked as ssi_ticked}
 use Rattle.controller.proofs.Steps.{transmission, waits, falls_first, falls, rises, rises_last, ends, ends_in}
 use Rattle.sensor.specs.declared.constants.Constants.{Constants}
 use Rattle.sensor.specs.declared.phase.Phase.{Phase as Sensing}
@@ -49,7 +49,7 @@ flight_busy (settling w bad q k) = refl
 -- the tick of completion with the line at x: the registers take what the frame says
 pub record Lands (c : Constants) (F : ℕ) (x : Bool) (p : Phase) : Type 0 where
   pub phase : phase_ticked x p ≡ Recovering 2599
-  pub word : (i : Ssi) → (ssiTicked x p i).word ≡ (reading_of c.format F).number
+  pub word : (i : Ssi) → (ssi_ticked x p i).word ≡ (reading_of c.format F).number
 
 -- after a tick with the line at x
 abbrev pub FlightAfter : Constants → ℕ → ℕ → FilterTiming → Samples → Sensing → Bool → ℕ → Phase → Type 0

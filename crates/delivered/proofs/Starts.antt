@@ -12,7 +12,7 @@ use Rattle.controller.specs.declared.phase.Due.TheVariants.{Nothing, Completion}
 use Rattle.controller.specs.declared.registers.Ssi.{Ssi}
 use Rattle.controller.specs.Control.{format_of}
 use Rattle.controller.specs.Phase.{busy_in, phase_ticked, stepped}
-use Rattle.controller.specs.Registers.{completion, half_period, phase_requested, started, requested as ssiRequested, ticked as ssiTicked}
+use Rattle.controller.specs.Registers.{completion, half_period, phase_requested, started, requested as ssi_requested, ticked as ssi_ticked}
 use Rattle.channel.specs.declared.channel.Channel.{Channel}
 use Rattle.channel.specs.declared.mode.Mode.{Mode}
 use Rattle.channel.specs.declared.mode.Mode.TheVariants.{Off, Counter as Counting, Ssi as Reading}
@@ -68,7 +68,7 @@ asks_recovering : (expired : Bool) (s : Start) (n : ℕ) (c : Channel)
 unfolding phase_requested
 asks_recovering false s n c = (c.ssi, refl)
 asks_recovering true Request n c = (c.ssi, refl)
-asks_recovering true Timer n c = (ssiRequested (Recovering n) c.ssi, refl)
+asks_recovering true Timer n c = (ssi_requested (Recovering n) c.ssi, refl)
 
 recovering_tick : (x : Levels) (i expired : Bool) (n : ℕ) (h : Channel) → transmits (channel_ticked x i expired (with_mode (Reading (Recovering n)) h)) ≡ false
 unfolding channel_ticked
@@ -76,7 +76,7 @@ recovering_tick x i expired n h =
     let o = observed x i h in
     let a = asks_recovering expired o.ssi.control.start n o in
     let y = seen x h in
-    let d = with_mode (Reading (phase_ticked y (Recovering n))) (with_ssi (ssiTicked y (Recovering n) a.0) (with_mode (Reading (Recovering n)) o)) in
+    let d = with_mode (Reading (phase_ticked y (Recovering n))) (with_ssi (ssi_ticked y (Recovering n) a.0) (with_mode (Reading (Recovering n)) o)) in
     let f = finishes (completion y (Recovering n)) d in
     subst (λ (c : Channel). transmits (transmitted y c) ≡ false) (sym a.1) (ap transmits_as f.mode ∙ recovery_quiet y n)
 

@@ -14,7 +14,7 @@ use Rattle.controller.specs.declared.phase.Phase.TheVariants.{Waiting, Clocking,
 use Rattle.controller.specs.declared.registers.Completed.{Completed}
 use Rattle.controller.specs.declared.registers.Ssi.{Ssi}
 use Rattle.controller.specs.Phase.{active_in, phase_ticked}
-use Rattle.controller.specs.Registers.{completion, phase_requested, requested as ssiRequested, ticked as ssiTicked}
+use Rattle.controller.specs.Registers.{completion, phase_requested, requested as ssi_requested, ticked as ssi_ticked}
 use Rattle.channel.specs.declared.act.Act.TheVariants.{Snapshot}
 use Rattle.channel.specs.declared.act.Bit.TheVariants.{Clock}
 use Rattle.channel.specs.declared.act.Share.TheVariants.{Single}
@@ -31,7 +31,7 @@ use Rattle.table.proofs.Loops.{get_d_changed, length_changed}
 use Rattle.card.specs.Calls.{Card, channels_ticked, tick_done, tick_levels}
 use Rattle.card.specs.Records.{blank, channel_of}
 use Rattle.card.specs.Shared.{expiry}
-use Rattle.card.specs.Snapshots.{timer_triggered, triggered as allTriggered}
+use Rattle.card.specs.Snapshots.{timer_triggered, triggered as all_triggered}
 use Rattle.delivered.proofs.Changes.{Filtering, Paced, Timed, filtering, trigger_change, timed_change}
 use Rattle.delivered.proofs.Moves.{acted_at, acted_length}
 
@@ -44,7 +44,7 @@ pub record Transmits (x : Levels) (p : Phase) (h d : Channel) : Type 0 where
   pub lines : d.lines ≡ lines_ticked x h.lines
   pub mode : d.mode ≡ Reading (phase_ticked (seen x h) p)
   pub before : Ssi
-  pub ssi : d.ssi ≡ ssiTicked (seen x h) p before
+  pub ssi : d.ssi ≡ ssi_ticked (seen x h) p before
 
 -- a record whose mode is known
 pub known : (h : Channel) (m : Mode) → h.mode ≡ m → h ≡ with_mode m h
@@ -65,7 +65,7 @@ asks_in_vain : (expired : Bool) (s : Start) (t : Transmission) (c : Channel)
 unfolding phase_requested
 asks_in_vain false s t c = (c.ssi, refl)
 asks_in_vain true Request t c = (c.ssi, refl)
-asks_in_vain true Timer t c = (ssiRequested (Clocking t) c.ssi, refl)
+asks_in_vain true Timer t c = (ssi_requested (Clocking t) c.ssi, refl)
 
 transmits_known : (x : Levels) (i expired : Bool) (t : Transmission) (h : Channel)
     → Transmits x (Clocking t) (with_mode (Reading (Clocking t)) h) (channel_ticked x i expired (with_mode (Reading (Clocking t)) h))
@@ -75,7 +75,7 @@ transmits_known x i expired t h =
     let o = observed x i h in
     let a = asks_in_vain expired o.ssi.control.start t o in
     let y = seen x h in
-    let d = with_mode (Reading (phase_ticked y (Clocking t))) (with_ssi (ssiTicked y (Clocking t) a.0) (with_mode (Reading (Clocking t)) o)) in
+    let d = with_mode (Reading (phase_ticked y (Clocking t))) (with_ssi (ssi_ticked y (Clocking t) a.0) (with_mode (Reading (Clocking t)) o)) in
     let f = finishes (completion y (Clocking t)) d in
     let T : Channel → Type 0 = λ c. Transmits x (Clocking t) g (transmitted y c) in
     subst T (sym a.1) (record { lines = ap (λ (g : Filtering). g.lines) f.filters; mode = f.mode; before = a.0; ssi = f.ssi })
@@ -93,7 +93,7 @@ pub record Stays (p : Phase) (h d : Channel) : Type 0 where
   pub control : d.ssi.control ≡ h.ssi.control
 
 ssi_stays : (s : Start) (p : Phase) (h : Channel) → active_in p ≡ true → Stays p (with_mode (Reading p) h) (ssi_snapped_as s (with_mode (Reading p) h))
-unfolding phase_requested ssiRequested
+unfolding phase_requested ssi_requested
 ssi_stays Request Waiting h a = absurd (true≢false (sym a))
 ssi_stays Request (Clocking t) h a = record { mode = refl; lines = refl; word = refl; control = refl }
 ssi_stays Request (Recovering n) h a = record { mode = refl; lines = refl; word = refl; control = refl }
@@ -157,7 +157,7 @@ pub record TickAt (k lines inputs : ℕ) (c d : Card) : Type 0 where
   pub triggers : Bool
   pub is : channel_of k d ≡ cond triggers (triggered (own_tick k lines inputs c)) (own_tick k lines inputs c)
 
-trigger_at : (b : Bool) (k lines inputs : ℕ) (c d : Card) → k < 8 → length d.channels ≡ 8 → channel_of k d ≡ own_tick k lines inputs c → TickAt k lines inputs c (cond b (allTriggered d) d)
+trigger_at : (b : Bool) (k lines inputs : ℕ) (c d : Card) → k < 8 → length d.channels ≡ 8 → channel_of k d ≡ own_tick k lines inputs c → TickAt k lines inputs c (cond b (all_triggered d) d)
 unfolding performed
 trigger_at true k lines inputs c d l e q =
     record { eight = acted_length Snapshot d.channels ∙ e; triggers = true; is = acted_at Snapshot k d.channels l e ∙ ap triggered q }

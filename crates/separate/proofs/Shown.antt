@@ -6,8 +6,8 @@ use Rattle.bits.specs.Words.{bit_at, field_at, word_flag}
 use Rattle.filter.specs.declared.debounce.Debounce.{Debounce}
 use Rattle.filter.specs.declared.debounce.TimeBase.{TimeBase}
 use Rattle.filter.specs.declared.debounce.TimeBase.TheVariants.{Ns30, Ns100, Us1, Ms1}
-use Rattle.filter.specs.Debounces.{base_word, word_of_debounce as debounceFields}
-use Rattle.timer.specs.Timers.{word_of_control as timerWord}
+use Rattle.filter.specs.Debounces.{base_word, word_of_debounce as debounce_fields}
+use Rattle.timer.specs.Timers.{word_of_control as timer_word}
 use Rattle.channel.specs.declared.act.Bit.{Bit}
 use Rattle.channel.specs.declared.act.Bit.TheVariants.{Clock, FallingEnabled, FallingPending, FaultEnabled, FaultPending, Input, InputDebounced, Output, RisingEnabled, RisingPending, SnapshotEnabled, TestOutput, ValidEnabled, ValidPending}
 use Rattle.channel.specs.declared.act.Share.{Share}
@@ -188,15 +188,15 @@ base_below Ns100 = omega arith
 base_below Us1 = omega arith
 base_below Ms1 = omega arith
 
-debounce_below : (t : Debounce) → t.time < 65536 → debounceFields t < 16777216
+debounce_below : (t : Debounce) → t.time < 65536 → debounce_fields t < 16777216
 debounce_below t h = omega (arith, base_below t.base)
 
 debounce_same : {k : ℕ} {c d : Card} (b : ℕ) → k < 8 → Same k c d → others_in k 24 1 b ≡ false → word_flag (word_of_debounce c) b ≡ word_flag (word_of_debounce d) b
 debounce_same {k} {c} {d} b h u e =
-    join (debounceFields c.shared.input_debounce) (debounceFields d.shared.input_debounce)
+    join (debounce_fields c.shared.input_debounce) (debounce_fields d.shared.input_debounce)
     (gathered (Single InputDebounced) c.channels) (gathered (Single InputDebounced) d.channels) 24 b
     (debounce_below c.shared.input_debounce u.left.time) (debounce_below d.shared.input_debounce u.right.time)
-    (λ _. ap (λ (q : Shared). word_flag (debounceFields q.input_debounce) b) u.shared) (λ l. own_bit_in InputDebounced 24 b h u e l)
+    (λ _. ap (λ (q : Shared). word_flag (debounce_fields q.input_debounce) b) u.shared) (λ l. own_bit_in InputDebounced 24 b h u e l)
 
 -- 0x160 24 V Output Control: one of the two enables is the channel's
 enables_bit : (t l m l' m' : Bool) (b : ℕ) → cond t l false ≡ cond t l' false → cond t false m ≡ cond t false m' → cond t (eqb b 1) (eqb b 0) ≡ false
@@ -326,7 +326,7 @@ register_same {k} {c} {d} o b h u e a =
     agree_if (eqb o 352) (λ t. agree (enables_same b u (named 352 t))) (
     agree_if (eqb o 356) (λ t. agree (byte_same Output b h u (named 356 t))) (
     agree_if (eqb o 360) (λ t. agree (driven_same b h u (named 360 t))) (
-    agree_if (eqb o 368) (λ t. agree (ap (λ (q : Shared). word_flag (timerWord q.timer) b) u.shared)) (
+    agree_if (eqb o 368) (λ t. agree (ap (λ (q : Shared). word_flag (timer_word q.timer) b) u.shared)) (
     agree_if (eqb o 372) (λ t. agree (ap (λ (q : Shared). word_flag q.timer.preload b) u.shared)) (
     agree_if (eqb o 376) (λ t. agree (ap (λ (q : Shared). word_flag q.timer.left b) u.shared)) (
     agree_if (eqb o 384) (λ t. agree (interrupts_same b h u (named 384 t))) (

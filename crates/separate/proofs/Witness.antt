@@ -2,10 +2,10 @@
 use Rattle.std.proofs.Common.{◌≡◌, ℕ, zero, suc, sym, refl, ◌∙◌, arith}
 use Rattle.filter.specs.Filters.{samples_in, ticked}
 use Rattle.controller.specs.Phase.{phase_ticked}
-use Rattle.controller.specs.Registers.{completion, phase_requested, requested, ticked as ssiTicked}
+use Rattle.controller.specs.Registers.{completion, phase_requested, requested, ticked as ssi_ticked}
 use Rattle.counter_control.specs.Words.{decoded}
 use Rattle.counter_count.specs.Ticks.{advanced, advance_outcome}
-use Rattle.counter.specs.Counters.{tick_causes, ticked as counterTicked}
+use Rattle.counter.specs.Counters.{tick_causes, ticked as counter_ticked}
 use Rattle.counter.specs.Registers.{control_answer, control_written, data_read, data_word, entered, left, status_shown}
 use Rattle.channel.specs.Registers.{register_shown, register_taken, register_written}
 use Rattle.channel.specs.Shares.{bit_of, performed, share_of}
@@ -26,7 +26,7 @@ modes_differ (suc (suc (suc (suc b)))) e =
     flag_above 8 4 (suc (suc (suc (suc b)))) (omega arith) (omega arith) ∙ sym (flag_above 9 4 (suc (suc (suc (suc b)))) (omega arith) (omega arith))
 
 pub alike_for_one : AlikeForOne
-unfolding samples_in ticked phase_ticked completion phase_requested requested ssiTicked decoded advanced advance_outcome tick_causes counterTicked control_answer control_written data_read data_word entered left status_shown register_shown register_taken register_written bit_of performed share_of channel_ticked acted gathered table_ticked powered_on read_done tick_done tick_levels write_done
+unfolding samples_in ticked phase_ticked completion phase_requested requested ssi_ticked decoded advanced advance_outcome tick_causes counter_ticked control_answer control_written data_read data_word entered left status_shown register_shown register_taken register_written bit_of performed share_of channel_ticked acted gathered table_ticked powered_on read_done tick_done tick_levels write_done
 alike_for_one = (
   more (writes refl modes_differ) (more (writes refl (λ b e. refl)) (more (ticks refl refl refl refl) (more (elsewhere refl refl)
       (more (ticks refl refl refl refl) (more (reads refl) (more (reads refl) none)))))),

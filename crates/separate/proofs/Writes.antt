@@ -8,7 +8,7 @@ use Rattle.filter.specs.Debounces.{debounce_of, period_of}
 use Rattle.parts.specs.Inputs.{debounced_by}
 use Rattle.parts.specs.Interrupts.{acknowledged, enabled_to}
 use Rattle.timer.specs.declared.Timer.{Timer}
-use Rattle.timer.specs.Timers.{control_written as timerWritten, preload_written as timerPreloaded}
+use Rattle.timer.specs.Timers.{control_written as timer_written, preload_written as timer_preloaded}
 use Rattle.channel.specs.declared.act.Act.TheVariants.{AcknowledgeEdges, AcknowledgeInterrupts, ClearSnapshot, Control, DebounceInput, EnableEdges, EnableInterrupts, Load, Output, Snapshot, TestOutput}
 use Rattle.channel.specs.declared.channel.Channel.{Channel}
 use Rattle.channel.specs.Records.{with_input, with_outputs}
@@ -17,7 +17,7 @@ use Rattle.card.specs.declared.Card.{Card}
 use Rattle.card.specs.declared.shared.Shared.{Shared}
 use Rattle.card.specs.Records.{with_shared, with_table}
 use Rattle.card.specs.Shared.{control_set, debounce_set, interrupts_set, outputs_enabled, timer_acknowledged, with_overflow, with_scratchpad, with_timer}
-use Rattle.card.specs.SharedRegisters.{acknowledged_all, control_written, inputs_debounced, interrupts_enabled as enablesWritten, on_all, shared_written}
+use Rattle.card.specs.SharedRegisters.{acknowledged_all, control_written, inputs_debounced, interrupts_enabled as enables_written, on_all, shared_written}
 use Rattle.card.specs.Snapshots.{commanded, snapshots_cleared, status_of, status_word, triggered}
 use Rattle.separate.specs.Separation.{SameFor, named_for_others, others_in}
 use Rattle.separate.proofs.Words.{field_same, word_same}
@@ -188,7 +188,7 @@ interrupt_flags x y s = record {
   scratchpad = s.scratchpad;
 }
 
-same_interrupts : {k : ℕ} {c d : Card} (v w : ℕ) → k < 8 → SameFor k 384 v w → Same k c d → Same k (enablesWritten v c) (enablesWritten w d)
+same_interrupts : {k : ℕ} {c d : Card} (v w : ℕ) → k < 8 → SameFor k 384 v w → Same k c d → Same k (enables_written v c) (enables_written w d)
 same_interrupts {k} {c} {d} v w h e s = same_acts (EnableInterrupts v) (EnableInterrupts w) h (enable_acts k v w h e)
     (same_shared (interrupts_set v c.shared) (interrupts_set w d.shared) s.left.time s.right.time
     (ap (interrupts_set v) s.shared ∙ ap₂ (λ x y. interrupt_flags x y (shared_for k d.shared)) (e 20 refl) (e 31 refl)) s)
@@ -229,8 +229,8 @@ same_write {k} {c} {d} o v w h e s =
     same_if (eqb o 340) (λ t. same_debounce v w h (at_offset k o 340 v w t e) s) (
     same_if (eqb o 352) (λ t. same_enables v w (at_offset k o 352 v w t e) s) (
     same_if (eqb o 356) (λ t. same_acts (Output v) (Output w) h (output_acts k v w h (at_offset k o 356 v w t e)) s) (
-    same_if (eqb o 368) (λ t. whole 368 t (λ b. refl) (λ q. with_shared (with_timer (timerWritten q d.shared.timer) d.shared.timer_interrupt d.shared) d) (same_timer (timerWritten v) s)) (
-    same_if (eqb o 372) (λ t. whole 372 t (λ b. refl) (λ q. with_shared (with_timer (timerPreloaded q d.shared.timer) d.shared.timer_interrupt d.shared) d) (same_timer (timerPreloaded v) s)) (
+    same_if (eqb o 368) (λ t. whole 368 t (λ b. refl) (λ q. with_shared (with_timer (timer_written q d.shared.timer) d.shared.timer_interrupt d.shared) d) (same_timer (timer_written v) s)) (
+    same_if (eqb o 372) (λ t. whole 372 t (λ b. refl) (λ q. with_shared (with_timer (timer_preloaded q d.shared.timer) d.shared.timer_interrupt d.shared) d) (same_timer (timer_preloaded v) s)) (
     same_if (eqb o 384) (λ t. same_interrupts v w h (at_offset k o 384 v w t e) s) (
     same_if (eqb o 388) (λ t. same_acts (EnableEdges v) (EnableEdges w) h (edge_acts k v w h (at_offset k o 388 v w t e)) s) (
     same_if (eqb o 392) (λ t. same_cond c.shared.clear_on_read d.shared.clear_on_read (clears_same s) s (same_acknowledged v w h (at_offset k o 392 v w t e) s)) (
