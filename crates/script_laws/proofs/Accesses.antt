@@ -1,6 +1,6 @@
 -- A script of accesses that the card takes makes just these accesses.
 use Rattle.std.proofs.Common.{◌≡◌, ℕ, suc, ◌-◌, ◌≤◌, List, [], ◌∷◌, ◌++◌, length, Ok, sym, refl, ap, ◌∙◌, arith}
-use Rattle.std.specs.List.{AllByRecursion as All}
+use Rattle.std.specs.List.{AllByRecursion}
 use Rattle.std.proofs.lemmas.List.{length-append}
 use Rattle.card.specs.Calls.{Card, powered_on}
 use Rattle.text.specs.declared.command.Command.{Command}
@@ -28,7 +28,7 @@ unfolding lines_ran
 line_first l ls k room n d bs q rest =
     ap (go_on (λ k' room'. lines_ran ls k' room') room) q ∙ ap (one_more d.bytes) rest
 
-performed_ran : (k : Card) (cs : List Command) (bs : List ℕ) (room : ℕ) → All Fits cs → Performed k cs bs → length bs ≤ room
+performed_ran : (k : Card) (cs : List Command) (bs : List ℕ) (room : ℕ) → AllByRecursion Fits cs → Performed k cs bs → length bs ≤ room
     → lines_ran (texts_of cs) k room ≡ complete (length cs) bs
 unfolding lines_ran
 performed_ran k [] bs room fits nothing h = refl
@@ -53,7 +53,7 @@ performed_ran k (Tick n b i ∷ cs) bs room fits (tick p) h =
     (text_ran (Tick n b i) k room fits.0 ∙ fits_none room k')
     (ap (lines_ran (texts_of cs) k') same ∙ performed_ran k' cs bs room fits.1 p h)
 
-texts_lines : (cs : List Command) → All Fits cs → All Line (texts_of cs)
+texts_lines : (cs : List Command) → AllByRecursion Fits cs → AllByRecursion Line (texts_of cs)
 texts_lines [] h = tt
 texts_lines (c ∷ cs) h = (text_line c h.0, texts_lines cs h.1)
 

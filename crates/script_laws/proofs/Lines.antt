@@ -1,6 +1,6 @@
 -- Lines that are written are read back.
 use Rattle.std.proofs.Common.{◌≡◌, ℕ, ◌<◌, List, [], ◌∷◌, ◌++◌, length, sym, refl, ap, ◌∙◌, append_assoc, arith, ne_eqb}
-use Rattle.std.specs.List.{AllByRecursion as All}
+use Rattle.std.specs.List.{AllByRecursion}
 use Rattle.std.proofs.lemmas.List.{append-nil}
 use Rattle.text.specs.Lines.{lines_of, onto}
 use Rattle.script_laws.specs.Written.{written, Line}
@@ -16,7 +16,7 @@ line_then [] s h = refl
 line_then (b ∷ bs) s h = byte_then b (bs ++ (10 ∷ s)) h.0 ∙ ap (onto b) (line_then bs s h.1)
 
 -- written lines in front of anything else
-pub lines_then : (ls : List (List ℕ)) (s : List ℕ) → All Line ls → lines_of (written ls ++ s) ≡ ls ++ lines_of s
+pub lines_then : (ls : List (List ℕ)) (s : List ℕ) → AllByRecursion Line ls → lines_of (written ls ++ s) ≡ ls ++ lines_of s
 lines_then [] s h = refl
 lines_then (l ∷ ls) s h =
     ap lines_of (append_assoc l (10 ∷ written ls) s)
@@ -28,7 +28,7 @@ last_line [] h p = absurd (omega arith)
 last_line (b ∷ []) h p = byte_then b [] h.0
 last_line (b ∷ c ∷ cs) h p = byte_then b (c ∷ cs) h.0 ∙ ap (onto b) (last_line (c ∷ cs) h.1 (omega arith))
 
-pub lines_back : (ls : List (List ℕ)) → All Line ls → lines_of (written ls) ≡ ls
+pub lines_back : (ls : List (List ℕ)) → AllByRecursion Line ls → lines_of (written ls) ≡ ls
 unfolding lines_of
 lines_back ls h =
     ap lines_of (sym (append-nil (written ls))) ∙ (lines_then ls [] h ∙ append-nil ls)

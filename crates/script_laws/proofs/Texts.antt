@@ -1,7 +1,7 @@
 -- A command that is written out is read back.
 use Rattle.std.proofs.Common.{◌≡◌, ℕ, zero, suc, ◌+◌, ◌*◌, ◌/◌, ◌%◌, ◌^◌, ◌<◌, ◌≤◌, true, false, cond, ltb, List, [], ◌∷◌, ◌++◌, length, get_or, drop, Some, Ok, decimal, Option, sym, refl, ap, ◌∙◌, subst, append_assoc, pow-suc, add-one, arith, ltb-false, ltb-true, lt-ltb, eq-eqb, ne_eqb, le-leb}
 use Rattle.std.proofs.lemmas.Bool.Decides.{nat_tests}
-use Rattle.std.specs.List.{AllByRecursion as All}
+use Rattle.std.specs.List.{AllByRecursion}
 use Rattle.std.proofs.ByRecursion.{All-append, All-push, All-weaker}
 use Rattle.std.proofs.lemmas.List.{length-append, append-nil}
 use Rattle.std.proofs.lemmas.Fmt.{decimal_by_steps, decimal_nonempty, length-decimal-le, first_decimal}
@@ -16,7 +16,7 @@ use Rattle.script_laws.specs.Laws.{CommandsReadBack}
 
 -- digits and letters: neither a comma nor byte 10 is among them
 abbrev pub Plain : List ℕ → Type 0
-Plain f = All (λ b. 48 ≤ b) f
+Plain f = AllByRecursion (λ b. 48 ≤ b) f
 
 -- the first of several fields
 module _ (r : List ℕ) where

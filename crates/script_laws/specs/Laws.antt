@@ -1,6 +1,6 @@
 -- What is said of scripts.
 use Rattle.std.specs.Prelude.{◌≡◌, ℕ, ◌<◌, ◌≤◌, List, [], ◌∷◌, ◌++◌, length, Ok}
-use Rattle.std.specs.List.{AllByRecursion as All}
+use Rattle.std.specs.List.{AllByRecursion}
 use Rattle.card.specs.Calls.{Card, Got, powered_on, read_done, write_done}
 use Rattle.text.specs.Lines.{lines_of}
 use Rattle.text.specs.Commands.{command_of}
@@ -13,7 +13,7 @@ use Rattle.script_laws.specs.Written.{Line, written, Fits, text_of, texts_of}
 -- lines that are written are the lines that are read, and so is a last line without its byte 10
 abbrev pub LinesReadBack : Type 0
 LinesReadBack =
-    (ls : List (List ℕ)) → All Line ls
+    (ls : List (List ℕ)) → AllByRecursion Line ls
     → (lines_of (written ls) ≡ ls)
     × ((l : List ℕ) → Line l → 0 < length l → lines_of (written ls ++ l) ≡ ls ++ (l ∷ []))
 
@@ -34,14 +34,14 @@ pub data Performed : Card → List Command → List ℕ → Type 0 where
 -- a script of commands that a new card takes, with room for what they write, is run to its end
 abbrev pub AccessesPerformed : Type 0
 AccessesPerformed =
-    (cs : List Command) (bs : List ℕ) (room : ℕ) → All Fits cs → Performed powered_on cs bs
+    (cs : List Command) (bs : List ℕ) (room : ℕ) → AllByRecursion Fits cs → Performed powered_on cs bs
     → length (written (texts_of cs)) ≤ 65536 → length bs ≤ room
     → script_ran (written (texts_of cs)) room ≡ record { lines = length cs; bytes = bs; code = 0 }
 
 -- first lines of a script, and what follows them, run to the end: so are the first lines alone, with the first part of the output
 abbrev pub PrefixStands : Type 0
 PrefixStands =
-    (ls : List (List ℕ)) (after : List ℕ) (room : ℕ) → All Line ls
+    (ls : List (List ℕ)) (after : List ℕ) (room : ℕ) → AllByRecursion Line ls
     → (script_ran (written ls ++ after) room).code ≡ 0
     → ((script_ran (written ls) room).code ≡ 0)
     × ((script_ran (written ls) room).lines ≡ length ls)

@@ -1,13 +1,13 @@
 -- Scripts as a host writes them.
 use Rattle.std.specs.Prelude.{ℕ, ◌^◌, ◌<◌, ◌≤◌, List, [], ◌∷◌, ◌++◌, decimal, ◌≢◌}
-use Rattle.std.specs.List.{AllByRecursion as All}
+use Rattle.std.specs.List.{AllByRecursion}
 use Rattle.text.specs.declared.command.Command.{Command}
 use Rattle.text.specs.declared.command.Command.TheVariants.{Read, Write, Tick}
 use Rattle.script.specs.Output.{hex_bytes}
 
 -- a line has no byte 10
 abbrev pub Line : List ℕ → Type 0
-Line l = All (λ b. b ≢ 10) l
+Line l = AllByRecursion (λ b. b ≢ 10) l
 
 -- lines in their order, each with its byte 10
 abbrev pub written : List (List ℕ) → List ℕ
