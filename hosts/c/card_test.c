@@ -60,7 +60,7 @@ static void test_ends(void) {
     expect("ticks", "T,100000,FFFFFF,FF\nR,1FC\n", 256, "R,1FC,01000000\n", 2, CARD_DONE);
     expect("empty line", "\n", 256, "", 0, CARD_FORM);
     expect("lower case", "R,1fc\n", 256, "", 0, CARD_FIELD);
-    expect("index mode", "W,018,00000500\n", 256, "", 0, CARD_SETTING);
+    expect("setting", "W,018,00000500\n", 256, "", 0, CARD_SETTING);
     expect("listen-only mode", "W,010,01000000\n", 256, "", 0, CARD_SETTING);
     expect_bytes("byte 0 in a line", "R,1FC\0\n", 7, 256, "", 0, CARD_FIELD);
 }
@@ -82,12 +82,15 @@ static void test_limits(void) {
     expect_bytes("the most that a script writes", reads, strlen(reads), CARD_MAX_OUTPUT, answers, 10922, CARD_DONE);
     answers[4369 * CARD_READ_LINE] = 0;
     expect("4,369 reads fit", reads, 65536, answers, 4369, CARD_FULL);
+    char *full = repeated("R,1FC\n", 4370);
+    expect("4,370 reads, of which 4,369 fit", full, 65536, answers, 4369, CARD_FULL);
     char *longest = repeated("T,1,000000,00\n\n\n", CARD_MAX_SCRIPT / 16);
     expect("65,536 bytes", longest, 16, "", 1, CARD_FORM);
     char *too_long = repeated("\n", CARD_MAX_SCRIPT + 1);
     expect("65,537 bytes", too_long, 16, "", 0, CARD_LENGTH);
     free(reads);
     free(answers);
+    free(full);
     free(longest);
     free(too_long);
 }
@@ -97,6 +100,6 @@ int main(void) {
     test_room();
     test_limits();
     if (failed == 0)
-        printf("card_run: all checks hold\n");
+        printf("C host: all checks hold\n");
     return failed != 0;
 }
