@@ -1,4 +1,4 @@
-use Rattle.std.proofs.Common.{◌∙◌}
+use Rattle.std.proofs.Common.{◌∙◌, rules}
 use Rattle.filter.specs.Filters.{timing_of}
 use Rattle.filter.proofs.Timings.{fit_due, fit_ticked, unfit_due, unfit_ticked}
 use Rattle.filter.proofs.timing.FilterTiming.tick.Goals as goal
@@ -15,6 +15,5 @@ returns c =
     let q = timing_of c.in-Some.clock in
     record {
       answer = c.tick-due.ensures.answer ∙ fit_due t q c.in-Some.ensures.0 c.in-Some.ensures.1;
-      after = fit_ticked t q (timing_of c.tick-due.new.self) c.phase-self.result
-          c.in-Some.ensures.0 c.in-Some.ensures.1 c.tick-due.ensures.after c.phase-self.ensures;
+      after = fit_ticked t q (timing_of c.tick-due.new.self) _ c.in-Some.ensures.0 c.in-Some.ensures.1 c.tick-due.ensures.after (search rules);
     }
