@@ -4,7 +4,7 @@
 ghost use Rattle.std.specs.Prelude.{◌≡◌, length};
 ghost use Rattle.script.specs.Runs.{script_ran, answer_of, output_of};
 
-use script::{RunAnswer, run_script};
+use script::RunAnswer;
 
 /// Runs a script on a new card, for a host program in C.
 #[unsafe(no_mangle)]
@@ -12,5 +12,5 @@ pub extern "C" fn card_run(script: &[u8], out: &mut [u8]) -> RunAnswer
     ensures answer { result ≡ answer_of (script_ran script.now (length out.old)) }
     ensures output { out.new ≡ output_of (script_ran script.now (length out.old)) out.old }
 {
-    run_script(script, out)
+    script::card_run(script, out)
 }
