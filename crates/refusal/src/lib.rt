@@ -4,13 +4,17 @@
 ghost use Rattle.std.specs.Prelude.{◌≡◌};
 ghost use Rattle.refusal.specs.Codes.{code_of};
 
+use thiserror::Error;
+
 /// Why the card refuses an access. A refused access leaves the card as it was.
-#[derive(Clone, Copy)]
+#[derive(Clone, Copy, Debug, PartialEq, Eq, Error)]
 pub enum Refusal {
     /// The offset is not a multiple of 4, or it is above 0x1FC.
-    Offset,
+    #[error("the card has no register at this offset")]
+    Offset = 1,
     /// The written word asks for a setting that the card does not have.
-    Setting,
+    #[error("the card does not have the setting that this word asks for")]
+    Setting = 2,
 }
 
 impl Refusal {
@@ -18,9 +22,6 @@ impl Refusal {
     pub fn code(self) -> u8
         ensures { result ≡ code_of self }
     {
-        match self {
-            Refusal::Offset => 1,
-            Refusal::Setting => 2,
-        }
+        self as u8
     }
 }
