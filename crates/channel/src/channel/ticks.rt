@@ -65,9 +65,8 @@ impl Channel {
     fn request_by_timer(&mut self, expired: bool)
         ensures { self.new ≡ timer_requested expired self.old }
     {
-        match (expired, self.ssi.control.start) {
-            (true, Start::Timer) => self.request(),
-            _ => {}
+        if expired && matches!(self.ssi.control.start, Start::Timer) {
+            self.request();
         }
     }
 
@@ -75,10 +74,7 @@ impl Channel {
     fn is_waiting(&self) -> bool
         ensures { result ≡ waits self.now }
     {
-        match self.mode {
-            Mode::Ssi(Phase::Waiting) => true,
-            _ => false,
-        }
+        matches!(self.mode, Mode::Ssi(Phase::Waiting))
     }
 
     fn count(&mut self, before: Levels, after: Levels)
