@@ -3,13 +3,13 @@ use Rattle.refusal.specs.declared.Refusal.{Refusal}
 use Rattle.counter_control.specs.declared.control.Control.{Control}
 use Rattle.counter_control.specs.Words.{Kept, decoded}
 use Rattle.counter_control.proofs.ReadBack.{kept}
-use Rattle.counter_control.proofs.control.Control.decode.Goals as goal
+use Rattle.counter_control.proofs.control.ControlTryFromU32.try_from.Goals as goal
 
 pub returns : goal.returns
 unfolding decoded
 returns c =
     let e : ◌≡◌ {A = Result Control Refusal} (Ok c.with_index.result) (decoded c.args.word) = search rules in
-    record { answer = e; kept = subst (λ r. Kept c.args.word r) (sym e) (kept c.args.word) }
+    (e, subst (λ r. Kept c.args.word r) (sym e) (kept c.args.word))
 
 pub returns-in_err-index : goal.returns-in_err-index
 unfolding decoded
