@@ -1,8 +1,9 @@
 -- An accepted control word is read back as it was written.
-use Rattle.std.proofs.Common.{◌≡◌, ℕ, ◌*◌, ◌%◌, ◌^◌, ◌<◌, cond, eqb, Some, None, Option, refl, arith}
+use Rattle.std.proofs.Common.{◌≡◌, ℕ, ◌*◌, ◌%◌, ◌^◌, ◌<◌, cond, eqb, Some, None, Ok, Option, refl, subst, sym, arith}
 use Rattle.std.proofs.lemmas.Bool.Decides.{nat_tests}
 use Rattle.bits.specs.Words.{word_field}
 use Rattle.counter_control.specs.declared.modes.IndexMode.{IndexMode}
+use Rattle.counter_control.specs.declared.control.Control.{Control}
 use Rattle.counter_control.specs.Modes.{clock_at, clock_code, index_at, index_code, input_at, input_code, special_at, special_code}
 use Rattle.counter_control.specs.Words.{Kept, control_of, word_of_control, decoded, decoded_with}
 
@@ -32,6 +33,9 @@ index_kept : (o : Option IndexMode) (w : ℕ) → index_at (word_field w 8 3) �
 index_kept (Some m) w e = word_kept m w (index_code_lem (word_field w 8 3) m e)
 index_kept None w e = tt
 
-pub kept : (w : ℕ) → Kept w (decoded w)
+kept : (w : ℕ) → Kept w (decoded w)
 unfolding decoded
 kept w = index_kept (index_at (word_field w 8 3)) w refl
+
+pub kept_at : (w : ℕ) (k : Control) → Ok k ≡ decoded w → word_of_control k ≡ w % 2 ^ 14
+kept_at w k e = subst (Kept w) (sym e) (kept w)

@@ -48,6 +48,7 @@ impl TryFrom<u32> for Control {
 
     ghost try_from_gives = { λ word r. (r ≡ decoded word) × Kept word r };
 
+    #[tactic(auto, using(crate::proofs::ReadBack::kept_at), unfolding(crate::specs::Words::decoded))]
     fn try_from(word: u32) -> Result<Control, Refusal> {
         let index = IndexMode::try_from(field(word, 8, 3))?;
         Ok(Control::with_index(index, word))
@@ -58,6 +59,7 @@ impl TryFrom<u32> for Control {
 impl From<Control> for u32 {
     ghost from_gives = { λ control word. word ≡ word_of_control control };
 
+    #[tactic(auto, unfolding(crate::specs::Words::word_of_control))]
     fn from(control: Control) -> u32 {
         let word = with_setting(0, 0, control.input);
         let word = with_setting(word, 3, control.clock);
