@@ -9,7 +9,7 @@ use Rattle.controller.specs.Phase.{pushed, phase_ticked}
 use Rattle.controller.specs.Registers.{completion, completed_by, ticked, completed_as, concluded}
 use Rattle.controller.specs.declared.phase.Transmission.{Transmission}
 use Rattle.controller.specs.declared.phase.Phase.TheVariants.{Waiting, Clocking, Recovering}
-use Rattle.controller.specs.declared.phase.Due.TheVariants.{Nothing, Toggle, Completion}
+use Rattle.controller.specs.declared.phase.Due.TheVariants.{Toggle, Completion}
 use Rattle.controller.specs.declared.registers.Ssi.{Ssi}
 
 -- a transmission, field by field
@@ -92,7 +92,7 @@ pub passes : (f : Format) (H : ℕ) (b : Bool) (r w a : ℕ) (bad x : Bool) → 
 unfolding completion
 passes f H b r w a bad x h = rw (lt-ltb 0 w h)
 
-undone : (q : Bool) (x : Bool) (t : Transmission) → completed_by (cond q Nothing Toggle) x (Clocking t) ≡ None
+undone : (q : Bool) (x : Bool) (t : Transmission) → completed_by (cond q None (Some Toggle)) x (Clocking t) ≡ None
 undone true x t = refl
 undone false x t = refl
 
@@ -103,7 +103,7 @@ goes_on f H b r w a bad x h =
     let n : ltb (frame_bits f) r ≡ false = le-ltb (frame_bits f) r h in
     rw n (undone (ltb 0 w) x (transmission f H b r w a bad))
 
-resting : (q : Bool) (x : Bool) (left : ℕ) → completed_by (cond q Nothing Completion) x (Recovering left) ≡ None
+resting : (q : Bool) (x : Bool) (left : ℕ) → completed_by (cond q None (Some Completion)) x (Recovering left) ≡ None
 resting true x left = refl
 resting false x left = refl
 

@@ -27,12 +27,12 @@ check_field Extra = 2
 check_field Both = 3
 
 -- START 00 and 01
-abbrev pub start_at : Bool → Start
-start_at timer = cond timer Timer Request
+abbrev pub start_at : ℕ → Start
+start_at n = cond (n == 1) Timer Request
 
-abbrev pub timer_bit : Start → Bool
-timer_bit Request = false
-timer_bit Timer = true
+abbrev pub start_number : Start → ℕ
+start_number Request = 0
+start_number Timer = 1
 
 -- CODE 0 and 1
 abbrev pub code_at : Bool → Code
@@ -56,7 +56,7 @@ control_of w =
       check = check_at (word_field w 20 2);
       odd = word_flag w 22;
       code = code_at (word_flag w 23);
-      start = start_at (word_flag w 25);
+      start = start_at (word_field w 25 1);
       delay = word_field w 27 5;
     }
 
@@ -66,7 +66,7 @@ decoded w = cond (control_refused w) (Err Setting) (Ok (control_of w))
 -- the word that shows the settings
 abbrev pub word_of_control : SsiControl → ℕ
 word_of_control c =
-    word_field c.rate 0 12 + field_at 12 (word_field (c.data_bits - 1) 0 5) + field_at 17 (word_field c.extra_bits 0 3) + field_at 20 (word_field (check_field c.check) 0 2) + bit_at 22 c.odd + bit_at 23 (gray_bit_of c.code) + bit_at 25 (timer_bit c.start) + field_at 27 (word_field c.delay 0 5)
+    word_field c.rate 0 12 + field_at 12 (word_field (c.data_bits - 1) 0 5) + field_at 17 (word_field c.extra_bits 0 3) + field_at 20 (word_field (check_field c.check) 0 2) + bit_at 22 c.odd + bit_at 23 (gray_bit_of c.code) + field_at 25 (start_number c.start) + field_at 27 (word_field c.delay 0 5)
 
 -- the parity bit of a frame
 abbrev pub odd_or_even : Bool → Span → Parity

@@ -1,8 +1,9 @@
 //! The SSI Mode Control word, decoded once when it is written.
-ghost use Rattle.std.specs.Prelude.{◌≡◌};
-ghost use Rattle.controller.specs.Control.{code_at, check_at, check_field, word_of_control, decoded, format_of, gray_bit_of, parity_of, start_at, timer_bit};
+ghost use Rattle.std.specs.Prelude.{◌≡◌, refl};
+ghost use Rattle.controller.specs.Control.{code_at, check_at, check_field, word_of_control, decoded, format_of, gray_bit_of, parity_of, start_at, start_number};
+ghost use Rattle.controller.specs.declared.control.Start.TheVariants.{Request, Timer};
 
-use bits::{field, flag, with_bit, with_field};
+use bits::{Setting, field, flag, setting_at, with_bit, with_field, with_setting};
 use frame::format::{Code, Format, Parity, Span};
 use refusal::Refusal;
 
@@ -20,12 +21,12 @@ pub enum ParityCheck {
 }
 
 /// START: what makes a request.
-#[derive(Clone, Copy)]
+#[derive(Clone, Copy, PartialEq, Eq)]
 pub enum Start {
     /// A write to the Data Register, or a snapshot.
-    Request,
+    Request = 0,
     /// The interval timer.
-    Timer,
+    Timer = 1,
 }
 
 /// What the SSI Mode Control Register holds.
@@ -90,21 +91,28 @@ impl ParityCheck {
     }
 }
 
-impl Start {
-    fn at(timer: bool) -> Start
-        ensures { result ≡ start_at timer }
-    {
-        if timer { Start::Timer } else { Start::Request }
-    }
+impl Setting for Start {
+    const WIDTH: u32 = 1;
 
-    fn timer(self) -> bool
-        ensures { result ≡ timer_bit self }
-    {
-        match self {
-            Start::Request => false,
-            Start::Timer => true,
+    ghost WIDTH = { 1 };
+
+    ghost named = { start_at };
+
+    ghost number_of = { start_number };
+
+    fn from_number(number: u32) -> Start {
+        if number == 1 {
+            Start::Timer
+        } else {
+            Start::Request
         }
     }
+
+    fn number(self) -> u32 {
+        self as u32
+    }
+
+    ghost reads_back = { elim [ Request ↦ refl | Timer ↦ refl ] };
 }
 
 fn code_at(gray: bool) -> Code
@@ -122,11 +130,13 @@ fn gray_bit(code: Code) -> bool
     }
 }
 
-impl SsiControl {
+impl TryFrom<u32> for SsiControl {
+    type Error = Refusal;
+
+    ghost try_from_gives = { λ word settings. settings ≡ decoded word };
+
     /// The settings of a written word; refused are listen-only mode and START 10 and 11.
-    pub fn decode(word: u32) -> Result<SsiControl, Refusal>
-        ensures { result ≡ decoded word }
-    {
+    fn try_from(word: u32) -> Result<SsiControl, Refusal> {
         if flag(word, 24) || field(word, 25, 2) > 1 {
             return Err(Refusal::Setting);
         }
@@ -137,25 +147,29 @@ impl SsiControl {
             check: ParityCheck::at(field(word, 20, 2)),
             odd: flag(word, 22),
             code: code_at(flag(word, 23)),
-            start: Start::at(flag(word, 25)),
+            start: setting_at(word, 25),
             delay: field(word, 27, 5),
         })
     }
+}
+
+impl From<SsiControl> for u32 {
+    ghost from_gives = { λ settings word. word ≡ word_of_control settings };
 
     /// The word that the register reads.
-    pub fn word(&self) -> u32
-        ensures { result ≡ word_of_control self.now }
-    {
-        let w = field(self.rate, 0, 12);
-        let w = with_field(w, 12, 5, field(self.data_bits.saturating_sub(1), 0, 5));
-        let w = with_field(w, 17, 3, field(self.extra_bits, 0, 3));
-        let w = with_field(w, 20, 2, field(self.check.number(), 0, 2));
-        let w = with_bit(w, 22, self.odd);
-        let w = with_bit(w, 23, gray_bit(self.code));
-        let w = with_bit(w, 25, self.start.timer());
-        with_field(w, 27, 5, field(self.delay, 0, 5))
+    fn from(settings: SsiControl) -> u32 {
+        let w = field(settings.rate, 0, 12);
+        let w = with_field(w, 12, 5, field(settings.data_bits.saturating_sub(1), 0, 5));
+        let w = with_field(w, 17, 3, field(settings.extra_bits, 0, 3));
+        let w = with_field(w, 20, 2, field(settings.check.number(), 0, 2));
+        let w = with_bit(w, 22, settings.odd);
+        let w = with_bit(w, 23, gray_bit(settings.code));
+        let w = with_setting(w, 25, settings.start);
+        with_field(w, 27, 5, field(settings.delay, 0, 5))
     }
+}
 
+impl SsiControl {
     /// The format of the frames that the settings ask for.
     pub fn format(&self) -> Format
         ensures { result ≡ format_of self.now }
