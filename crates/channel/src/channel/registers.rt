@@ -29,7 +29,7 @@ impl Channel {
     fn write_debounce(&mut self, word: u32)
         ensures { self.new ≡ debounce_written word self.old }
     {
-        self.debounce = Debounce::decode(word);
+        self.debounce = Debounce::from(word);
         self.lines.restart(self.debounce.period());
     }
 
@@ -95,7 +95,7 @@ impl Channel {
             0x0C => self.counter.status_word(),
             0x10 => self.counter.count.preload,
             0x14 => self.counter.compare,
-            0x1C => self.debounce.word(),
+            0x1C => u32::from(self.debounce),
             0x20 => self.read_data(),
             _ => 0,
         }
