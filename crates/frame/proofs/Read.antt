@@ -1,16 +1,15 @@
 -- A frame that is sent is read back.
-use Rattle.std.proofs.Common.{◌≡◌, ℕ, ◌+◌, ◌*◌, ◌/◌, ◌%◌, ◌^◌, ◌<◌, ◌≤◌, false, eqb, sym, refl, ap, ◌∙◌, subst, mod-eq_of_lt, arith, pow_mono}
+use Rattle.std.proofs.Common.{◌≡◌, ℕ, ◌+◌, ◌*◌, ◌/◌, ◌%◌, ◌^◌, ◌<◌, ◌≤◌, false, eqb, Option, Some, None, sym, refl, ap, ◌∙◌, subst, mod-eq_of_lt, arith, pow_mono}
 use lib.Bits.{bit_and, and_block, and_mask}
 use lib.Count.{ones, ones_cat, ones_step, ones-le}
 use Rattle.std.proofs.lemmas.Nat.{mul-add-lt, pow-add, shr-shr, shr_high, mod_low}
 use Rattle.std.proofs.lemmas.Bool.{ne_eqb}
-use Rattle.frame.specs.Layout.{coded_as, decoded_as, data_bit_count, extra_bit_count, parity_bits, body_of, parity_for, parity_ones, covered_bits, shown_parity, parity_wrong, word_of_frame, reading_of}
+use Rattle.frame.specs.Layout.{coded_as, decoded_as, data_bit_count, extra_bit_count, parity_bits, body_of, parity_for, parity_ones, parity_off, covered_bits, shown_parity, parity_wrong, word_of_frame, reading_of}
 use Rattle.frame.specs.ReadBack.{Carries, FrameFits, ReadsBack}
 use Rattle.frame.specs.declared.format.Code.{Code}
 use Rattle.frame.specs.declared.format.Code.TheVariants.{Binary, Gray}
 use Rattle.frame.specs.declared.format.Span.{Span}
 use Rattle.frame.specs.declared.format.Parity.{Parity}
-use Rattle.frame.specs.declared.format.Parity.TheVariants.{Absent, Even, Odd}
 use Rattle.frame.specs.declared.format.Format.{Format}
 use Rattle.frame.proofs.GrayWords.{ungray_gray, gray_below}
 
@@ -42,22 +41,18 @@ ones_without s d z b =
     ap (parity_ones s d z) (let e : b * 2 ≡ b * 2 + 0 = omega arith in e) ∙ ones_with s d z b 0 (omega arith) ∙ omega arith
 
 -- the parity bit, as it is sent and as it is read
-pub parity_below : (k : Parity) (d z b : ℕ) → parity_for k d z b < 2 ^ parity_bits k
-parity_below Absent d z b = omega arith
-parity_below (Even s) d z b = omega arith
-parity_below (Odd s) d z b = omega arith
+pub parity_below : (k : Option Parity) (d z b : ℕ) → parity_for k d z b < 2 ^ parity_bits k
+parity_below None d z b = omega arith
+parity_below (Some p) d z b = omega arith
 
-pub parity_seen : (k : Parity) (d z b : ℕ) → shown_parity k (b * 2 ^ parity_bits k + parity_for k d z b) ≡ eqb (parity_for k d z b) 1
-parity_seen Absent d z b = refl
-parity_seen (Even s) d z b = ap (λ n. eqb n 1) (mod_low b 1 _ (parity_below (Even s) d z b))
-parity_seen (Odd s) d z b = ap (λ n. eqb n 1) (mod_low b 1 _ (parity_below (Odd s) d z b))
+pub parity_seen : (k : Option Parity) (d z b : ℕ) → shown_parity k (b * 2 ^ parity_bits k + parity_for k d z b) ≡ eqb (parity_for k d z b) 1
+parity_seen None d z b = refl
+parity_seen (Some p) d z b = ap (λ n. eqb n 1) (mod_low b 1 _ (parity_below (Some p) d z b))
 
-pub parity_agrees : (k : Parity) (d z b : ℕ) → parity_wrong k d z (b * 2 ^ parity_bits k + parity_for k d z b) ≡ false
-parity_agrees Absent d z b = refl
-parity_agrees (Even s) d z b =
-    ne_eqb _ 1 (λ e. omega (arith, e, ones_with s d z b (parity_for (Even s) d z b) (omega arith), ones_without s d z b))
-parity_agrees (Odd s) d z b =
-    ne_eqb _ 0 (λ e. omega (arith, e, ones_with s d z b (parity_for (Odd s) d z b) (omega arith), ones_without s d z b))
+pub parity_agrees : (k : Option Parity) (d z b : ℕ) → parity_wrong k d z (b * 2 ^ parity_bits k + parity_for k d z b) ≡ false
+parity_agrees None d z b = refl
+parity_agrees (Some p) d z b =
+    ne_eqb _ 1 (λ e. omega (arith, e, ones_with p.span d z b (parity_off p d z (b * 2)) (omega arith), ones_without p.span d z b))
 
 -- in range the bits are as many as the format says
 data_is : (f : Format) → f.data_bits ≤ 32 → data_bit_count f ≡ f.data_bits

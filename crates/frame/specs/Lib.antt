@@ -1,3 +1,4 @@
 pub mod Gray
 pub mod Layout
+pub mod Numbers
 pub mod ReadBack

@@ -6,3 +6,4 @@ pub mod gray;
 pub mod laws;
 pub mod reader;
 pub mod sender;
+mod widths;
