@@ -1,9 +1,8 @@
 -- Each kind of tick of a transmission as an equation.
-use Rattle.std.proofs.Common.{◌≡◌, ℕ, suc, ◌+◌, ◌-◌, ◌%◌, ◌^◌, ◌<◌, ◌≤◌, Bool, true, false, cond, not, eqb, ltb, Some, None, refl, arith}
+use Rattle.std.proofs.Common.{◌≡◌, ℕ, suc, ◌+◌, ◌-◌, ◌%◌, ◌^◌, ◌<◌, ◌≤◌, Bool, true, false, cond, not, eqb, ltb, Some, None, Option, refl, arith}
 use Rattle.std.proofs.lemmas.Bool.{lt-ltb, le-ltb, ne_eqb}
 use Rattle.frame.specs.Layout.{frame_bits, parity_bits}
 use Rattle.frame.specs.declared.format.Parity.{Parity}
-use Rattle.frame.specs.declared.format.Parity.TheVariants.{Absent, Even, Odd}
 use Rattle.frame.specs.declared.format.Format.{Format}
 use Rattle.controller.specs.Phase.{pushed, phase_ticked}
 use Rattle.controller.specs.Registers.{completion, completed_by, ticked, completed_as, concluded}
@@ -17,10 +16,9 @@ abbrev pub transmission : Format → ℕ → Bool → ℕ → ℕ → ℕ → Bo
 transmission f H high rises wait word fault =
     record { half = H; format = f; high = high; rises = rises; wait = wait; word = word; fault = fault }
 
-parity_most : (p : Parity) → parity_bits p ≤ 1
-parity_most Absent = omega arith
-parity_most (Even s) = omega arith
-parity_most (Odd s) = omega arith
+parity_most : (p : Option Parity) → parity_bits p ≤ 1
+parity_most None = omega arith
+parity_most (Some p) = omega arith
 
 -- a frame has at most 40 bits
 pub bits_most : (f : Format) → frame_bits f ≤ 40

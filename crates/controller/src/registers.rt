@@ -3,7 +3,7 @@ ghost use Rattle.std.specs.Prelude.{◌≡◌};
 ghost use Rattle.controller.specs.Phase.{active_in, busy_in, phase_ticked};
 ghost use Rattle.controller.specs.Registers.{begun, completed_by, completion, concluded, control_answer, control_written, phase_requested, powered_on, recorded, requested, completed_as, status_word, ticked};
 
-use crate::control::{ParityCheck, SsiControl, Start};
+use crate::control::{SsiControl, Start};
 use crate::phase::{Due, Phase, Transmission};
 use bits::{field, with_bit, with_field};
 use frame::format::Code;
@@ -66,7 +66,7 @@ impl Ssi {
                 rate: 0,
                 data_bits: 1,
                 extra_bits: 0,
-                check: ParityCheck::Off,
+                check: None,
                 odd: false,
                 code: Code::Binary,
                 start: Start::Request,
