@@ -34,7 +34,7 @@ impl Channel {
     fn takes_requests(&self) -> bool
         ensures { result ≡ is_taking_requests self.now }
     {
-        matches!(self.ssi.control.start, Start::Request)
+        self.ssi.control.start == Start::Request
     }
 
     /// A write to the register at an offset in the channel's span; a refusal leaves the channel.
@@ -85,7 +85,7 @@ impl Channel {
         ensures after { self.new ≡ register_taken offset self.old }
     {
         match offset {
-            0x00 => self.ssi.control.word(),
+            0x00 => u32::from(self.ssi.control),
             0x04 => self.ssi_status(),
             0x08 => self.counter.control_word(),
             0x0C => self.counter.status_word(),
