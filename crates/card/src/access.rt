@@ -21,6 +21,7 @@ fn check_offset(offset: u32) -> Result<(), Refusal>
 
 impl Card {
     /// Whether a read of the offset would be refused; it alters nothing.
+    #[tactic(auto, unfolding(crate::specs::Calls::read_done))]
     pub fn read_refused(&self, offset: u32) -> Result<(), Refusal>
         ensures { result ≡ allowed (read_done self.now offset) }
     {
@@ -55,6 +56,7 @@ impl Card {
     }
 
     /// Reads a register.
+    #[tactic(auto, unfolding(crate::specs::Calls::read_done))]
     pub fn read(&mut self, offset: u32) -> Result<u32, Refusal>
         ensures answer { result ≡ value_of (read_done self.old offset) }
         ensures after { self.new ≡ card_after_read self.old (read_done self.old offset) }
@@ -77,6 +79,7 @@ impl Card {
     }
 
     /// Writes a register.
+    #[tactic(auto, unfolding(crate::specs::Calls::write_done))]
     pub fn write(&mut self, offset: u32, value: u32) -> Result<(), Refusal>
         ensures answer { result ≡ accepted (write_done self.old offset value) }
         ensures after { self.new ≡ card_after_write self.old (write_done self.old offset value) }

@@ -8,28 +8,23 @@ use channel::act::{Act, Bit, Share};
 use table::{act_on_all, gather};
 
 /// MCR STA.
-#[derive(Clone, Copy)]
+#[derive(Clone, Copy, PartialEq, Eq)]
 pub enum SnapshotStatus {
     /// Nothing is collected or unread.
-    Idle,
+    Idle = 0,
     /// A transmission is to give a word.
-    Collecting,
+    Collecting = 1,
     /// A word waits to be read.
-    Unread,
+    Unread = 2,
     /// A trigger met a status other than idle.
-    Overflow,
+    Overflow = 3,
 }
 
 impl SnapshotStatus {
     pub(crate) fn word(self) -> u32
         ensures { result ≡ status_word self }
     {
-        match self {
-            SnapshotStatus::Idle => 0,
-            SnapshotStatus::Collecting => 1,
-            SnapshotStatus::Unread => 2,
-            SnapshotStatus::Overflow => 3,
-        }
+        self as u32
     }
 }
 
@@ -53,7 +48,7 @@ impl Card {
     fn trigger(&mut self)
         ensures { self.new ≡ triggered self.old }
     {
-        self.shared.overflow = self.snapshot_status().word() != 0;
+        self.shared.overflow = self.snapshot_status() != SnapshotStatus::Idle;
         act_on_all(&mut self.channels, Act::Snapshot);
     }
 

@@ -9,6 +9,7 @@ use table::tick_all;
 
 impl Card {
     /// A card that has just been switched on.
+    #[tactic(auto, unfolding(crate::specs::Calls::powered_on))]
     pub fn power_on() -> Card
         ensures { result ≡ powered_on }
     {
@@ -19,6 +20,7 @@ impl Card {
     }
 
     /// One tick of 10 ns with the levels of the encoder lines, in bits 23 to 0, and of the 24 V inputs.
+    #[tactic(auto, unfolding(crate::specs::Calls::tick_done, crate::specs::Calls::tick_levels))]
     pub fn tick(&mut self, lines: u32, inputs: u8) -> Levels
         ensures answer { result ≡ tick_levels lines inputs self.old }
         ensures after { self.new ≡ tick_done lines inputs self.old }

@@ -4,7 +4,7 @@ ghost use Rattle.filter.specs.Filters.{line_filtered, no_samples, steady_at, tak
 ghost use Rattle.filter.specs.Settling.{Settles};
 
 /// The samples of one line, and the level that they settled.
-#[derive(Clone, Copy)]
+#[derive(Clone, Copy, Default)]
 pub struct Samples {
     /// The last sample.
     pub last: bool,
@@ -19,11 +19,7 @@ impl Samples {
     pub fn power_on() -> Samples
         ensures { result ≡ no_samples }
     {
-        Samples {
-            last: false,
-            before: false,
-            level: false,
-        }
+        Samples::default()
     }
 
     /// One more sample; the level follows three that are equal.

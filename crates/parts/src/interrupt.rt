@@ -3,7 +3,7 @@ ghost use Rattle.std.specs.Prelude.{◌≡◌};
 ghost use Rattle.parts.specs.Interrupts.{acknowledged, enabled_to, quiet, raised};
 
 /// An interrupt's enable bit and its pending bit.
-#[derive(Clone, Copy)]
+#[derive(Clone, Copy, Default)]
 pub struct Interrupt {
     pub enabled: bool,
     pub pending: bool,
@@ -14,10 +14,7 @@ impl Interrupt {
     pub fn power_on() -> Interrupt
         ensures { result ≡ quiet }
     {
-        Interrupt {
-            enabled: false,
-            pending: false,
-        }
+        Interrupt::default()
     }
 
     /// A cause sets the pending bit only if the interrupt is enabled.

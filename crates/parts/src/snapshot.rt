@@ -3,9 +3,10 @@ ghost use Rattle.std.specs.Prelude.{◌≡◌};
 ghost use Rattle.parts.specs.Snapshots.{after_reading, cleared, collects, completed, emptied, enabled_as, is_collecting, is_unread, latched_with};
 
 /// How far a channel's part of a snapshot is.
-#[derive(Clone, Copy, PartialEq, Eq)]
+#[derive(Clone, Copy, Default, PartialEq, Eq)]
 pub enum Progress {
     /// The word has been read, or there is none.
+    #[default]
     Read,
     /// A transmission under way will give the word.
     Collecting,
@@ -14,7 +15,7 @@ pub enum Progress {
 }
 
 /// A channel's part of a snapshot.
-#[derive(Clone, Copy)]
+#[derive(Clone, Copy, Default)]
 pub struct Snapshot {
     pub enabled: bool,
     pub word: u32,
@@ -26,11 +27,7 @@ impl Snapshot {
     pub fn power_on() -> Snapshot
         ensures { result ≡ emptied }
     {
-        Snapshot {
-            enabled: false,
-            word: 0,
-            progress: Progress::Read,
-        }
+        Snapshot::default()
     }
 
     /// A word that is there at once.

@@ -27,7 +27,7 @@ fn levels_at(lines: u32, k: u32) -> Levels
 }
 
 /// A tick of every channel, each with its own lines and input.
-pub fn tick_all(channels: &mut [Channel; 8], lines: u32, inputs: u32, expired: bool)
+pub fn tick_all(channels: &mut [Channel; CHANNELS], lines: u32, inputs: u32, expired: bool)
     ensures { channels.new ≡ table_ticked lines inputs expired channels.old }
 {
     for (k, channel) in channels.iter_mut().enumerate() {
@@ -38,7 +38,7 @@ pub fn tick_all(channels: &mut [Channel; 8], lines: u32, inputs: u32, expired: b
 }
 
 /// What a write of a shared register asks of every channel.
-pub fn act_on_all(channels: &mut [Channel; 8], act: Act)
+pub fn act_on_all(channels: &mut [Channel; CHANNELS], act: Act)
     ensures { channels.new ≡ acted act channels.old }
 {
     for (k, channel) in channels.iter_mut().enumerate() {
@@ -47,7 +47,7 @@ pub fn act_on_all(channels: &mut [Channel; 8], act: Act)
 }
 
 /// The shares of all channels in one word, channel 0 lowest.
-pub fn gather(channels: &[Channel; 8], share: Share) -> u32
+pub fn gather(channels: &[Channel; CHANNELS], share: Share) -> u32
     ensures answer { result ≡ gathered share channels.now }
     ensures below { result < 2 ^ (width_of share * 8) }
 {

@@ -9,8 +9,9 @@ ghost use Rattle.timer.specs.Intervals.{KeepsInterval};
 use bits::{Setting, flag, setting_at, with_bit, with_setting};
 
 /// The timer's time base, ITTB.
-#[derive(Clone, Copy, PartialEq, Eq)]
+#[derive(Clone, Copy, Default, PartialEq, Eq)]
 pub enum Base {
+    #[default]
     Ns100 = 0,
     Us1 = 1,
     Ms1 = 2,
@@ -18,7 +19,7 @@ pub enum Base {
 }
 
 /// The interval timer: it expires each ITPRE periods of its base.
-#[derive(Clone, Copy)]
+#[derive(Clone, Copy, Default)]
 pub struct Timer {
     /// ITEN.
     pub enabled: bool,
@@ -75,13 +76,7 @@ impl Timer {
     pub fn power_on() -> Timer
         ensures { result ≡ new_timer }
     {
-        Timer {
-            enabled: false,
-            base: Base::Ns100,
-            preload: 0,
-            left: 0,
-            wait: 0,
-        }
+        Timer::default()
     }
 
     /// All of the preload is left, and a base period starts.

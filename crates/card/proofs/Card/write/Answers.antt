@@ -5,10 +5,6 @@ use Rattle.card.proofs.Refused.{exit_is, refused_record, refused_write}
 use Rattle.card.specs.Calls.{accepted, card_after_write, write_done}
 use Rattle.card.proofs.Card.write.Goals as goal
 
-pub returns-in_err-check_offset : goal.returns-in_err-check_offset
-unfolding write_done
-returns-in_err-check_offset c = search rules
-
 pub returns-in_err-write-in-16-to-335 : goal.returns-in_err-write-in-16-to-335
 returns-in_err-write-in-16-to-335 c =
     let k = c.args.self.now in
@@ -21,11 +17,3 @@ returns-in_err-write-in-16-to-335 c =
       answer = exit_is c.from_residual-in_err-write-in-16-to-335.result c.from_residual-in_err-write-in-16-to-335.ensures.1 ∙ ap accepted (sym d);
       after = refused_record k c.args.offset c.args.value e _ s c.write.ensures.after ∙ ap (card_after_write k) (sym d);
     }
-
-pub returns-in_ok-write-in-16-to-335 : goal.returns-in_ok-write-in-16-to-335
-unfolding write_done
-returns-in_ok-write-in-16-to-335 c = search rules
-
-pub returns-in_default : goal.returns-in_default
-unfolding write_done
-returns-in_default c = search rules
