@@ -65,7 +65,10 @@ fn turntable() -> Constants {
     let format = Format {
         data_bits: 12,
         extra_bits: 1,
-        parity: Parity::Odd(Span::Both),
+        parity: Some(Parity {
+            span: Span::Both,
+            odd: true,
+        }),
         code: Code::Gray,
     };
     Constants {
