@@ -69,7 +69,7 @@ impl Shared {
     pub(crate) fn write_input_debounce(&mut self, word: u32)
         ensures { self.new ≡ debounce_set word self.old }
     {
-        self.input_debounce = Debounce::decode(word);
+        self.input_debounce = Debounce::from(word);
     }
 
     pub(crate) fn enable_outputs(&mut self, word: u32)

@@ -37,7 +37,7 @@ impl Card {
         ensures { result ≡ word_of_debounce self.now }
     {
         let enables = gather(&self.channels, Share::Single(Bit::InputDebounced));
-        with_field(self.shared.input_debounce.word(), 24, 8, enables)
+        with_field(u32::from(self.shared.input_debounce), 24, 8, enables)
     }
 
     /// The outputs that are on: DO under DOEN.

@@ -1,25 +1,28 @@
 -- An accepted control word reads as it was written.
-use Rattle.std.proofs.Common.{◌≡◌, ℕ, zero, suc, ◌*◌, ◌/◌, ◌%◌, ◌^◌, ◌<◌, ◌≤◌, Bool, true, false, ltb, refl, ap, ◌∙◌, arith}
+use Rattle.std.proofs.Common.{◌≡◌, ℕ, zero, suc, ◌*◌, ◌/◌, ◌%◌, ◌^◌, ◌<◌, ◌≤◌, Bool, true, false, ltb, refl, ap, arith}
 use Rattle.std.proofs.lemmas.Bool.{eqb-true, eqb-false, ltb-false, or_parts}
 use Rattle.bits.specs.Words.{word_field, word_flag, bit_at}
-use Rattle.controller.specs.Control.{check_at, check_field, code_at, gray_bit_of, start_at, timer_bit}
+use Rattle.frame.specs.Numbers.{code_at, code_number, span_at}
+use Rattle.controller.specs.Control.{check_field, start_at, start_number}
 use Rattle.controller.specs.Timing.{ControlReadsBack}
 
--- a field of two bits that names a parity check is given back
-check_back : (n : ℕ) → n < 4 → word_field (check_field (check_at n)) 0 2 ≡ n
+-- a field that names a setting is given back
+check_back : (n : ℕ) → n < 4 → check_field (span_at n) ≡ n
 check_back zero h = refl
 check_back (suc zero) h = refl
 check_back (suc (suc zero)) h = refl
 check_back (suc (suc (suc zero))) h = refl
 check_back (suc (suc (suc (suc n)))) h = absurd (omega arith)
 
-gray_back : (b : Bool) → gray_bit_of (code_at b) ≡ b
-gray_back true = refl
-gray_back false = refl
+code_back : (n : ℕ) → n < 2 → code_number (code_at n) ≡ n
+code_back zero h = refl
+code_back (suc zero) h = refl
+code_back (suc (suc n)) h = absurd (omega arith)
 
-timer_back : (b : Bool) → timer_bit (start_at b) ≡ b
-timer_back true = refl
-timer_back false = refl
+start_back : (n : ℕ) → n < 2 → start_number (start_at n) ≡ n
+start_back zero h = refl
+start_back (suc zero) h = refl
+start_back (suc (suc n)) h = absurd (omega arith)
 
 -- a bit is put back where it was
 bit_back : (w k : ℕ) → bit_at k (word_flag w k) ≡ w / 2 ^ k % 2 * 2 ^ k
@@ -35,6 +38,6 @@ control_reads_back_lem w h ok =
     let listen : word_flag w 24 ≡ false = q.0 in
     let start : word_field w 25 2 ≤ 1 = ltb-false 1 (word_field w 25 2) q.1 in
     let c = check_back (word_field w 20 2) (omega arith) in
-    let g = ap (bit_at 23) (gray_back (word_flag w 23)) ∙ bit_back w 23 in
-    let t = ap (bit_at 25) (timer_back (word_flag w 25)) ∙ bit_back w 25 in
+    let g = code_back (word_field w 23 1) (omega arith) in
+    let t = start_back (word_field w 25 1) (omega arith) in
     omega (arith, c, g, t, bit_back w 22, eqb-false _ _ listen)

@@ -1,15 +1,14 @@
 -- Each kind of tick of a transmission as an equation.
-use Rattle.std.proofs.Common.{◌≡◌, ℕ, suc, ◌+◌, ◌-◌, ◌%◌, ◌^◌, ◌<◌, ◌≤◌, Bool, true, false, cond, not, eqb, ltb, Some, None, refl, arith}
+use Rattle.std.proofs.Common.{◌≡◌, ℕ, suc, ◌+◌, ◌-◌, ◌%◌, ◌^◌, ◌<◌, ◌≤◌, Bool, true, false, cond, not, eqb, ltb, Some, None, Option, refl, arith}
 use Rattle.std.proofs.lemmas.Bool.{lt-ltb, le-ltb, ne_eqb}
 use Rattle.frame.specs.Layout.{frame_bits, parity_bits}
 use Rattle.frame.specs.declared.format.Parity.{Parity}
-use Rattle.frame.specs.declared.format.Parity.TheVariants.{Absent, Even, Odd}
 use Rattle.frame.specs.declared.format.Format.{Format}
 use Rattle.controller.specs.Phase.{pushed, phase_ticked}
 use Rattle.controller.specs.Registers.{completion, completed_by, ticked, completed_as, concluded}
 use Rattle.controller.specs.declared.phase.Transmission.{Transmission}
 use Rattle.controller.specs.declared.phase.Phase.TheVariants.{Waiting, Clocking, Recovering}
-use Rattle.controller.specs.declared.phase.Due.TheVariants.{Nothing, Toggle, Completion}
+use Rattle.controller.specs.declared.phase.Due.TheVariants.{Toggle, Completion}
 use Rattle.controller.specs.declared.registers.Ssi.{Ssi}
 
 -- a transmission, field by field
@@ -17,10 +16,9 @@ abbrev pub transmission : Format → ℕ → Bool → ℕ → ℕ → ℕ → Bo
 transmission f H high rises wait word fault =
     record { half = H; format = f; high = high; rises = rises; wait = wait; word = word; fault = fault }
 
-parity_most : (p : Parity) → parity_bits p ≤ 1
-parity_most Absent = omega arith
-parity_most (Even s) = omega arith
-parity_most (Odd s) = omega arith
+parity_most : (p : Option Parity) → parity_bits p ≤ 1
+parity_most None = omega arith
+parity_most (Some p) = omega arith
 
 -- a frame has at most 40 bits
 pub bits_most : (f : Format) → frame_bits f ≤ 40
@@ -92,7 +90,7 @@ pub passes : (f : Format) (H : ℕ) (b : Bool) (r w a : ℕ) (bad x : Bool) → 
 unfolding completion
 passes f H b r w a bad x h = rw (lt-ltb 0 w h)
 
-undone : (q : Bool) (x : Bool) (t : Transmission) → completed_by (cond q Nothing Toggle) x (Clocking t) ≡ None
+undone : (q : Bool) (x : Bool) (t : Transmission) → completed_by (cond q None (Some Toggle)) x (Clocking t) ≡ None
 undone true x t = refl
 undone false x t = refl
 
@@ -103,7 +101,7 @@ goes_on f H b r w a bad x h =
     let n : ltb (frame_bits f) r ≡ false = le-ltb (frame_bits f) r h in
     rw n (undone (ltb 0 w) x (transmission f H b r w a bad))
 
-resting : (q : Bool) (x : Bool) (left : ℕ) → completed_by (cond q Nothing Completion) x (Recovering left) ≡ None
+resting : (q : Bool) (x : Bool) (left : ℕ) → completed_by (cond q None (Some Completion)) x (Recovering left) ≡ None
 resting true x left = refl
 resting false x left = refl
 

@@ -1,5 +1,5 @@
 -- The laws of the controller's times, each read off where the transmission stands.
-use Rattle.std.proofs.Common.{◌≡◌, ℕ, zero, suc, ◌+◌, ◌*◌, ◌/◌, ◌%◌, ◌<◌, ◌≤◌, Bool, true, false, cond, not, ◌||◌, eqb, ltb, Some, None, sym, refl, ◌∙◌, subst, ap₂, mul_assoc, suc-mul, add-mul, one-mul, arith}
+use Rattle.std.proofs.Common.{◌≡◌, ℕ, zero, suc, ◌+◌, ◌*◌, ◌/◌, ◌%◌, ◌<◌, ◌≤◌, Bool, true, false, cond, not, ◌||◌, eqb, ltb, Some, None, Option, sym, refl, ◌∙◌, subst, ap₂, mul_assoc, suc-mul, add-mul, one-mul, arith}
 use native.Mathlib.Nat.{div-eq_of_lt-le}
 use Rattle.std.proofs.lemmas.Nat.{mul-le}
 use Rattle.std.proofs.lemmas.Bool.{eq-eqb, ne_eqb, lt-ltb, le-ltb}
@@ -11,7 +11,7 @@ use Rattle.controller.specs.Timing.{phase_before, last_rise, taken_in, Sampled, 
 use Rattle.controller.specs.declared.phase.Phase.{Phase}
 use Rattle.controller.specs.declared.phase.Phase.TheVariants.{Waiting, Clocking, Recovering}
 use Rattle.controller.specs.declared.phase.Due.{Due}
-use Rattle.controller.specs.declared.phase.Due.TheVariants.{Nothing, Toggle, Completion, Drop}
+use Rattle.controller.specs.declared.phase.Due.TheVariants.{Toggle, Completion, Drop}
 use Rattle.controller.specs.declared.registers.Ssi.{Ssi}
 use Rattle.controller.proofs.Steps.{passes, goes_on, ends_with, recovers_quietly, idles_quietly}
 use Rattle.controller.proofs.Under.{Under, low, high, settling, recovering, waiting, collected, collected_sampled, under_all}
@@ -129,13 +129,13 @@ completes f H line zero h =
 completes f H line (suc τ) h = gives_at (under_all f H line h τ)
 
 -- the registers follow what completes
-follows : (d : Due) (x : Bool) (p : Phase) (s : Ssi) → Follows (completed_by d x p) s (recorded d x p s)
-follows Nothing x p s = refl
-follows Toggle x p s = refl
-follows Completion x Waiting s = refl
-follows Completion x (Clocking t) s = (refl, refl)
-follows Completion x (Recovering left) s = refl
-follows Drop x p s = refl
+follows : (d : Option Due) (x : Bool) (p : Phase) (s : Ssi) → Follows (completed_by d x p) s (recorded d x p s)
+follows None x p s = refl
+follows (Some Toggle) x p s = refl
+follows (Some Completion) x Waiting s = refl
+follows (Some Completion) x (Clocking t) s = (refl, refl)
+follows (Some Completion) x (Recovering left) s = refl
+follows (Some Drop) x p s = refl
 
 pub shows_completed : ShowsCompleted
 unfolding completion ticked

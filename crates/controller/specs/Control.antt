@@ -1,46 +1,28 @@
 -- The SSI Mode Control word and what it sets.
-use Rattle.std.specs.Prelude.{ℕ, ◌+◌, ◌-◌, Bool, true, false, cond, ◌||◌, Ok, Err, Result, ◌==◌, nat_lt}
+use Rattle.std.specs.Prelude.{ℕ, ◌+◌, ◌-◌, Bool, cond, ◌||◌, Ok, Err, Result, Some, None, Option, ◌==◌, nat_lt}
 use Rattle.bits.specs.Words.{word_field, word_flag, field_at, bit_at}
 use Rattle.refusal.specs.declared.Refusal.{Refusal}
 use Rattle.refusal.specs.declared.Refusal.TheVariants.{Setting}
-use Rattle.frame.specs.declared.format.Code.{Code}
-use Rattle.frame.specs.declared.format.Code.TheVariants.{Binary, Gray}
+use Rattle.frame.specs.Numbers.{code_at, code_number, span_at, span_number}
 use Rattle.frame.specs.declared.format.Span.{Span}
-use Rattle.frame.specs.declared.format.Span.TheVariants.{Data as OverData, Extra as OverExtra, Both as OverBoth}
 use Rattle.frame.specs.declared.format.Parity.{Parity}
-use Rattle.frame.specs.declared.format.Parity.TheVariants.{Absent, Even, Odd}
 use Rattle.frame.specs.declared.format.Format.{Format}
-use Rattle.controller.specs.declared.control.ParityCheck.{ParityCheck}
-use Rattle.controller.specs.declared.control.ParityCheck.TheVariants.{Off, Data, Extra, Both}
 use Rattle.controller.specs.declared.control.Start.{Start}
 use Rattle.controller.specs.declared.control.Start.TheVariants.{Request, Timer}
 use Rattle.controller.specs.declared.control.SsiControl.{SsiControl}
 
--- PAR 00 to 11
-abbrev pub check_at : ℕ → ParityCheck
-check_at n = cond (n == 0) Off (cond (n == 1) Data (cond (n == 2) Extra Both))
-
-abbrev pub check_field : ParityCheck → ℕ
-check_field Off = 0
-check_field Data = 1
-check_field Extra = 2
-check_field Both = 3
+-- PAR 00 and the spans 01 to 11
+abbrev pub check_field : Option Span → ℕ
+check_field None = 0
+check_field (Some s) = span_number s
 
 -- START 00 and 01
-abbrev pub start_at : Bool → Start
-start_at timer = cond timer Timer Request
+abbrev pub start_at : ℕ → Start
+start_at n = cond (n == 1) Timer Request
 
-abbrev pub timer_bit : Start → Bool
-timer_bit Request = false
-timer_bit Timer = true
-
--- CODE 0 and 1
-abbrev pub code_at : Bool → Code
-code_at gray = cond gray Gray Binary
-
-abbrev pub gray_bit_of : Code → Bool
-gray_bit_of Binary = false
-gray_bit_of Gray = true
+abbrev pub start_number : Start → ℕ
+start_number Request = 0
+start_number Timer = 1
 
 -- a word with listen-only mode or START 10 or 11 is refused
 abbrev pub control_refused : ℕ → Bool
@@ -53,10 +35,10 @@ control_of w =
       rate = word_field w 0 12;
       data_bits = word_field w 12 5 + 1;
       extra_bits = word_field w 17 3;
-      check = check_at (word_field w 20 2);
+      check = span_at (word_field w 20 2);
       odd = word_flag w 22;
-      code = code_at (word_flag w 23);
-      start = start_at (word_flag w 25);
+      code = code_at (word_field w 23 1);
+      start = start_at (word_field w 25 1);
       delay = word_field w 27 5;
     }
 
@@ -66,17 +48,12 @@ decoded w = cond (control_refused w) (Err Setting) (Ok (control_of w))
 -- the word that shows the settings
 abbrev pub word_of_control : SsiControl → ℕ
 word_of_control c =
-    word_field c.rate 0 12 + field_at 12 (word_field (c.data_bits - 1) 0 5) + field_at 17 (word_field c.extra_bits 0 3) + field_at 20 (word_field (check_field c.check) 0 2) + bit_at 22 c.odd + bit_at 23 (gray_bit_of c.code) + bit_at 25 (timer_bit c.start) + field_at 27 (word_field c.delay 0 5)
+    word_field c.rate 0 12 + field_at 12 (word_field (c.data_bits - 1) 0 5) + field_at 17 (word_field c.extra_bits 0 3) + field_at 20 (check_field c.check) + bit_at 22 c.odd + field_at 23 (code_number c.code) + field_at 25 (start_number c.start) + field_at 27 (word_field c.delay 0 5)
 
 -- the parity bit of a frame
-abbrev pub odd_or_even : Bool → Span → Parity
-odd_or_even odd s = cond odd (Odd s) (Even s)
-
-abbrev pub parity_of : ParityCheck → Bool → Parity
-parity_of Off odd = Absent
-parity_of Data odd = odd_or_even odd OverData
-parity_of Extra odd = odd_or_even odd OverExtra
-parity_of Both odd = odd_or_even odd OverBoth
+abbrev pub parity_of : Option Span → Bool → Option Parity
+parity_of None odd = None
+parity_of (Some s) odd = Some (record { span = s; odd = odd })
 
 -- the format of the frames that the settings ask for
 abbrev pub format_of : SsiControl → Format

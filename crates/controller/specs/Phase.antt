@@ -1,11 +1,11 @@
 -- The phases of the controller, tick by tick.
-use Rattle.std.specs.Prelude.{ℕ, ◌+◌, ◌-◌, ◌*◌, ◌%◌, ◌^◌, Bool, true, false, cond, not, ◌==◌, nat_lt}
+use Rattle.std.specs.Prelude.{ℕ, ◌+◌, ◌-◌, ◌*◌, ◌%◌, ◌^◌, Bool, true, false, cond, not, Some, None, Option, ◌==◌, nat_lt}
 use Rattle.frame.specs.Layout.{frame_bits}
 use Rattle.controller.specs.declared.phase.Transmission.{Transmission}
 use Rattle.controller.specs.declared.phase.Phase.{Phase}
 use Rattle.controller.specs.declared.phase.Phase.TheVariants.{Waiting, Clocking, Recovering}
 use Rattle.controller.specs.declared.phase.Due.{Due}
-use Rattle.controller.specs.declared.phase.Due.TheVariants.{Nothing, Toggle, Completion, Drop}
+use Rattle.controller.specs.declared.phase.Due.TheVariants.{Toggle, Completion, Drop}
 
 -- a transmission with another clock level, number of rises, wait, word and fault
 abbrev pub clocked : Transmission → Bool → ℕ → ℕ → ℕ → Bool → Transmission
@@ -32,23 +32,23 @@ abbrev pub toggled : Bool → Transmission → Transmission
 toggled x t = cond t.high (fell x t) (rose t)
 
 -- what a tick brings: after the last rise there is only completion
-abbrev pub due_of : Phase → Due
-due_of Waiting = Nothing
-due_of (Clocking t) = cond (nat_lt 0 t.wait) Nothing (cond (nat_lt (frame_bits t.format) t.rises) Completion Toggle)
-due_of (Recovering left) = cond (nat_lt 0 left) Nothing Completion
+abbrev pub due_of : Phase → Option Due
+due_of Waiting = None
+due_of (Clocking t) = cond (nat_lt 0 t.wait) None (cond (nat_lt (frame_bits t.format) t.rises) (Some Completion) (Some Toggle))
+due_of (Recovering left) = cond (nat_lt 0 left) None (Some Completion)
 
 -- the phase after what is due, with the line at x: recovery takes 2,600 ticks from completion
-abbrev pub stepped : Due → Bool → Phase → Phase
-stepped Nothing x Waiting = Waiting
-stepped Nothing x (Clocking t) = Clocking (waited t)
-stepped Nothing x (Recovering left) = Recovering (left - 1)
-stepped Toggle x Waiting = Waiting
-stepped Toggle x (Clocking t) = Clocking (toggled x t)
-stepped Toggle x (Recovering left) = Recovering left
-stepped Completion x Waiting = Waiting
-stepped Completion x (Clocking t) = Recovering 2599
-stepped Completion x (Recovering left) = Waiting
-stepped Drop x p = Waiting
+abbrev pub stepped : Option Due → Bool → Phase → Phase
+stepped None x Waiting = Waiting
+stepped None x (Clocking t) = Clocking (waited t)
+stepped None x (Recovering left) = Recovering (left - 1)
+stepped (Some Toggle) x Waiting = Waiting
+stepped (Some Toggle) x (Clocking t) = Clocking (toggled x t)
+stepped (Some Toggle) x (Recovering left) = Recovering left
+stepped (Some Completion) x Waiting = Waiting
+stepped (Some Completion) x (Clocking t) = Recovering 2599
+stepped (Some Completion) x (Recovering left) = Waiting
+stepped (Some Drop) x p = Waiting
 
 -- the phase after a tick with the line at x
 unfoldable pub phase_ticked : Bool → Phase → Phase

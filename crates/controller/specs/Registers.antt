@@ -13,7 +13,7 @@ use Rattle.controller.specs.declared.phase.Transmission.{Transmission}
 use Rattle.controller.specs.declared.phase.Phase.{Phase}
 use Rattle.controller.specs.declared.phase.Phase.TheVariants.{Waiting, Clocking, Recovering}
 use Rattle.controller.specs.declared.phase.Due.{Due}
-use Rattle.controller.specs.declared.phase.Due.TheVariants.{Nothing, Toggle, Completion, Drop}
+use Rattle.controller.specs.declared.phase.Due.TheVariants.{Toggle, Completion, Drop}
 use Rattle.controller.specs.declared.registers.Completed.{Completed}
 use Rattle.controller.specs.declared.registers.Ssi.{Ssi}
 
@@ -84,21 +84,21 @@ concluded x t s =
       word = (read_as t).number;
     }
 
-abbrev pub completed_by : Due → Bool → Phase → Option Completed
-completed_by Nothing x p = None
-completed_by Toggle x p = None
-completed_by Completion x Waiting = None
-completed_by Completion x (Clocking t) = Some (completed_as x t)
-completed_by Completion x (Recovering left) = None
-completed_by Drop x p = None
+abbrev pub completed_by : Option Due → Bool → Phase → Option Completed
+completed_by None x p = None
+completed_by (Some Toggle) x p = None
+completed_by (Some Completion) x Waiting = None
+completed_by (Some Completion) x (Clocking t) = Some (completed_as x t)
+completed_by (Some Completion) x (Recovering left) = None
+completed_by (Some Drop) x p = None
 
-abbrev pub recorded : Due → Bool → Phase → Ssi → Ssi
-recorded Nothing x p s = s
-recorded Toggle x p s = s
-recorded Completion x Waiting s = s
-recorded Completion x (Clocking t) s = concluded x t s
-recorded Completion x (Recovering left) s = s
-recorded Drop x p s = s
+abbrev pub recorded : Option Due → Bool → Phase → Ssi → Ssi
+recorded None x p s = s
+recorded (Some Toggle) x p s = s
+recorded (Some Completion) x Waiting s = s
+recorded (Some Completion) x (Clocking t) s = concluded x t s
+recorded (Some Completion) x (Recovering left) s = s
+recorded (Some Drop) x p s = s
 
 -- the transmission that a tick completes
 unfoldable pub completion : Bool → Phase → Option Completed

@@ -1,31 +1,19 @@
 //! The SSI Mode Control word, decoded once when it is written.
-ghost use Rattle.std.specs.Prelude.{◌≡◌};
-ghost use Rattle.controller.specs.Control.{code_at, check_at, check_field, word_of_control, decoded, format_of, gray_bit_of, parity_of, start_at, timer_bit};
+ghost use Rattle.std.specs.Prelude.{◌≡◌, refl};
+ghost use Rattle.controller.specs.Control.{decoded, format_of, start_at, start_number, word_of_control};
+ghost use Rattle.controller.specs.declared.control.Start.TheVariants.{Request, Timer};
 
-use bits::{field, flag, with_bit, with_field};
+use bits::{Setting, field, flag, setting_at, with_bit, with_field, with_setting};
 use frame::format::{Code, Format, Parity, Span};
 use refusal::Refusal;
 
-/// PAR: the bits for which parity errors are detected.
-#[derive(Clone, Copy)]
-pub enum ParityCheck {
-    /// There is no parity bit.
-    Off,
-    /// Data bits.
-    Data,
-    /// Extra bits.
-    Extra,
-    /// Data bits and extra bits.
-    Both,
-}
-
 /// START: what makes a request.
-#[derive(Clone, Copy)]
+#[derive(Clone, Copy, PartialEq, Eq)]
 pub enum Start {
     /// A write to the Data Register, or a snapshot.
-    Request,
+    Request = 0,
     /// The interval timer.
-    Timer,
+    Timer = 1,
 }
 
 /// What the SSI Mode Control Register holds.
@@ -37,9 +25,9 @@ pub struct SsiControl {
     pub data_bits: u32,
     /// ZB: how many extra bits it has.
     pub extra_bits: u32,
-    /// PAR.
-    pub check: ParityCheck,
-    /// EO: odd parity.
+    /// PAR: the bits for which parity errors are detected; without them a frame has no parity bit.
+    pub check: Option<Span>,
+    /// EO: odd parity, which reads back as written where PAR is 00 too.
     pub odd: bool,
     /// CODE.
     pub code: Code,
@@ -49,84 +37,37 @@ pub struct SsiControl {
     pub delay: u32,
 }
 
-impl ParityCheck {
-    fn at(number: u32) -> ParityCheck
-        ensures { result ≡ check_at number }
-    {
-        match number {
-            0 => ParityCheck::Off,
-            1 => ParityCheck::Data,
-            2 => ParityCheck::Extra,
-            _ => ParityCheck::Both,
-        }
-    }
+impl Setting for Start {
+    const WIDTH: u32 = 1;
 
-    fn number(self) -> u32
-        ensures { result ≡ check_field self }
-    {
-        match self {
-            ParityCheck::Off => 0,
-            ParityCheck::Data => 1,
-            ParityCheck::Extra => 2,
-            ParityCheck::Both => 3,
-        }
-    }
+    ghost WIDTH = { 1 };
 
-    /// The parity bit of a frame, odd or even.
-    fn parity(self, odd: bool) -> Parity
-        ensures { result ≡ parity_of self odd }
-    {
-        let span = match self {
-            ParityCheck::Off => return Parity::Absent,
-            ParityCheck::Data => Span::Data,
-            ParityCheck::Extra => Span::Extra,
-            ParityCheck::Both => Span::Both,
-        };
-        if odd {
-            Parity::Odd(span)
+    ghost named = { start_at };
+
+    ghost number_of = { start_number };
+
+    fn from_number(number: u32) -> Start {
+        if number == 1 {
+            Start::Timer
         } else {
-            Parity::Even(span)
+            Start::Request
         }
     }
-}
 
-impl Start {
-    fn at(timer: bool) -> Start
-        ensures { result ≡ start_at timer }
-    {
-        if timer { Start::Timer } else { Start::Request }
+    fn number(self) -> u32 {
+        self as u32
     }
 
-    fn timer(self) -> bool
-        ensures { result ≡ timer_bit self }
-    {
-        match self {
-            Start::Request => false,
-            Start::Timer => true,
-        }
-    }
+    ghost reads_back = { elim [ Request ↦ refl | Timer ↦ refl ] };
 }
 
-fn code_at(gray: bool) -> Code
-    ensures { result ≡ code_at gray }
-{
-    if gray { Code::Gray } else { Code::Binary }
-}
+impl TryFrom<u32> for SsiControl {
+    type Error = Refusal;
 
-fn gray_bit(code: Code) -> bool
-    ensures { result ≡ gray_bit_of code }
-{
-    match code {
-        Code::Binary => false,
-        Code::Gray => true,
-    }
-}
+    ghost try_from_gives = { λ word settings. settings ≡ decoded word };
 
-impl SsiControl {
     /// The settings of a written word; refused are listen-only mode and START 10 and 11.
-    pub fn decode(word: u32) -> Result<SsiControl, Refusal>
-        ensures { result ≡ decoded word }
-    {
+    fn try_from(word: u32) -> Result<SsiControl, Refusal> {
         if flag(word, 24) || field(word, 25, 2) > 1 {
             return Err(Refusal::Setting);
         }
@@ -134,28 +75,32 @@ impl SsiControl {
             rate: field(word, 0, 12),
             data_bits: field(word, 12, 5) + 1,
             extra_bits: field(word, 17, 3),
-            check: ParityCheck::at(field(word, 20, 2)),
+            check: Span::from_number(field(word, 20, 2)),
             odd: flag(word, 22),
-            code: code_at(flag(word, 23)),
-            start: Start::at(flag(word, 25)),
+            code: setting_at(word, 23),
+            start: setting_at(word, 25),
             delay: field(word, 27, 5),
         })
     }
+}
+
+impl From<SsiControl> for u32 {
+    ghost from_gives = { λ settings word. word ≡ word_of_control settings };
 
     /// The word that the register reads.
-    pub fn word(&self) -> u32
-        ensures { result ≡ word_of_control self.now }
-    {
-        let w = field(self.rate, 0, 12);
-        let w = with_field(w, 12, 5, field(self.data_bits.saturating_sub(1), 0, 5));
-        let w = with_field(w, 17, 3, field(self.extra_bits, 0, 3));
-        let w = with_field(w, 20, 2, field(self.check.number(), 0, 2));
-        let w = with_bit(w, 22, self.odd);
-        let w = with_bit(w, 23, gray_bit(self.code));
-        let w = with_bit(w, 25, self.start.timer());
-        with_field(w, 27, 5, field(self.delay, 0, 5))
+    fn from(settings: SsiControl) -> u32 {
+        let w = field(settings.rate, 0, 12);
+        let w = with_field(w, 12, 5, field(settings.data_bits.saturating_sub(1), 0, 5));
+        let w = with_field(w, 17, 3, field(settings.extra_bits, 0, 3));
+        let w = with_field(w, 20, 2, settings.check.map_or(0, Span::number));
+        let w = with_bit(w, 22, settings.odd);
+        let w = with_setting(w, 23, settings.code);
+        let w = with_setting(w, 25, settings.start);
+        with_field(w, 27, 5, field(settings.delay, 0, 5))
     }
+}
 
+impl SsiControl {
     /// The format of the frames that the settings ask for.
     pub fn format(&self) -> Format
         ensures { result ≡ format_of self.now }
@@ -163,7 +108,10 @@ impl SsiControl {
         Format {
             data_bits: self.data_bits,
             extra_bits: self.extra_bits,
-            parity: self.check.parity(self.odd),
+            parity: self.check.map(|span| Parity {
+                span,
+                odd: self.odd,
+            }),
             code: self.code,
         }
     }

@@ -2,20 +2,16 @@
 ghost use Rattle.controller.specs.Timing.{ClockToggles, Completes, ControlReadsBack, Delivers, KeepsTimes, ShowsCompleted, TakesBits};
 
 /// From an accepted request on, clock, samples, completion and recovery come in their ticks, whatever is on the line.
-pub fn timing_stands() -> u8
+pub fn timing_stands()
     ensures clock { ClockToggles }
     ensures sampled { TakesBits }
     ensures completes { Completes }
     ensures shows { ShowsCompleted }
     ensures delivers { Delivers }
     ensures times { KeepsTimes }
-{
-    0
-}
+{}
 
 /// A control word that is accepted reads as it was written.
-pub fn control_reads_back() -> u8
+pub fn control_reads_back()
     ensures { ControlReadsBack }
-{
-    0
-}
+{}

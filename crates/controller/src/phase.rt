@@ -41,11 +41,9 @@ pub enum Phase {
     Recovering { left: u32 },
 }
 
-/// What is due for the controller.
+/// What may be due for the controller in a tick; where nothing is, the tick only passes.
 #[derive(Clone, Copy)]
 pub enum Due {
-    /// Nothing but the passing of a tick.
-    Nothing,
     /// The clock toggles.
     Toggle,
     /// The phase completes.
@@ -101,41 +99,31 @@ impl Transmission {
 
 impl Phase {
     /// What the next tick brings.
-    pub(crate) fn due(&self) -> Due
+    pub(crate) fn due(&self) -> Option<Due>
         ensures { result ≡ due_of self.now }
     {
         match self {
-            Phase::Waiting => Due::Nothing,
-            Phase::Clocking(t) => {
-                if t.wait > 0 {
-                    Due::Nothing
-                } else if t.rises > t.format.bits() {
-                    Due::Completion
-                } else {
-                    Due::Toggle
-                }
-            }
-            Phase::Recovering { left } => if *left > 0 {
-                Due::Nothing
-            } else {
-                Due::Completion
-            },
+            Phase::Clocking(t) if t.wait > 0 => None,
+            Phase::Clocking(t) if t.rises > t.format.bits() => Some(Due::Completion),
+            Phase::Clocking(_) => Some(Due::Toggle),
+            Phase::Recovering { left: 0 } => Some(Due::Completion),
+            Phase::Waiting | Phase::Recovering { .. } => None,
         }
     }
 
     /// The phase after what is due, with the filtered data line at `level`.
-    pub(crate) fn step(&mut self, due: Due, level: bool)
+    pub(crate) fn step(&mut self, due: Option<Due>, level: bool)
         ensures { self.new ≡ stepped due level self.old }
     {
         match (&mut *self, due) {
-            (Phase::Clocking(t), Due::Nothing) => t.wait = t.wait.saturating_sub(1),
-            (Phase::Clocking(t), Due::Toggle) => t.toggle(level),
-            (Phase::Clocking(_), Due::Completion) => *self = Phase::Recovering {
+            (Phase::Clocking(t), None) => t.wait = t.wait.saturating_sub(1),
+            (Phase::Clocking(t), Some(Due::Toggle)) => t.toggle(level),
+            (Phase::Clocking(_), Some(Due::Completion)) => *self = Phase::Recovering {
                 left: RECOVERY - 1,
             },
-            (Phase::Recovering { left }, Due::Nothing) => *left = left.saturating_sub(1),
-            (Phase::Recovering { .. }, Due::Completion) => *self = Phase::Waiting,
-            (_, Due::Drop) => *self = Phase::Waiting,
+            (Phase::Recovering { left }, None) => *left = left.saturating_sub(1),
+            (Phase::Recovering { .. }, Some(Due::Completion)) => *self = Phase::Waiting,
+            (_, Some(Due::Drop)) => *self = Phase::Waiting,
             _ => {}
         }
     }
@@ -146,7 +134,7 @@ impl Phase {
         ensures after { self.new ≡ Waiting }
     {
         let busy = self.busy();
-        self.step(Due::Drop, true);
+        self.step(Some(Due::Drop), true);
         busy
     }
 
@@ -164,19 +152,13 @@ impl Phase {
     pub fn busy(&self) -> bool
         ensures { result ≡ busy_in self.now }
     {
-        match self {
-            Phase::Clocking(_) => true,
-            _ => false,
-        }
+        matches!(self, Phase::Clocking(_))
     }
 
     /// SENSOR STATUS: a transmission or the sensor's recovery is under way.
     pub fn active(&self) -> bool
         ensures { result ≡ active_in self.now }
     {
-        match self {
-            Phase::Waiting => false,
-            _ => true,
-        }
+        !matches!(self, Phase::Waiting)
     }
 }

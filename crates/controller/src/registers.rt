@@ -3,7 +3,7 @@ ghost use Rattle.std.specs.Prelude.{◌≡◌};
 ghost use Rattle.controller.specs.Phase.{phase_ticked};
 ghost use Rattle.controller.specs.Registers.{begun, completed_by, completion, concluded, control_answer, control_written, phase_requested, powered_on, recorded, requested, completed_as, status_word, ticked};
 
-use crate::control::{ParityCheck, SsiControl, Start};
+use crate::control::{SsiControl, Start};
 use crate::phase::{Due, Phase, Transmission};
 use bits::{field, with_bit, with_field};
 use frame::format::Code;
@@ -43,11 +43,9 @@ impl SsiControl {
     fn begin(&self) -> Option<Transmission>
         ensures { result ≡ begun self.now }
     {
-        if self.rate == 0 {
-            return None;
-        }
+        let half = 50_000_u32.checked_div(self.rate)?;
         Some(Transmission {
-            half: 50_000 / self.rate,
+            half,
             format: self.format(),
             high: true,
             rises: 0,
@@ -68,7 +66,7 @@ impl Ssi {
                 rate: 0,
                 data_bits: 1,
                 extra_bits: 0,
-                check: ParityCheck::Off,
+                check: None,
                 odd: false,
                 code: Code::Binary,
                 start: Start::Request,
@@ -88,7 +86,7 @@ impl Ssi {
         ensures answer { result ≡ control_answer word }
         ensures after { self.new ≡ control_written word self.old }
     {
-        self.control = SsiControl::decode(word)?;
+        self.control = SsiControl::try_from(word)?;
         Ok(())
     }
 
@@ -126,12 +124,12 @@ impl Ssi {
     }
 
     /// What is due concludes a transmission or leaves the registers.
-    fn record(&mut self, phase: &Phase, due: Due, level: bool) -> Option<Completed>
+    fn record(&mut self, phase: &Phase, due: Option<Due>, level: bool) -> Option<Completed>
         ensures answer { result ≡ completed_by due level phase.now }
         ensures after { self.new ≡ recorded due level phase.now self.old }
     {
         match (phase, due) {
-            (Phase::Clocking(transmission), Due::Completion) => Some(self.conclude(
+            (Phase::Clocking(transmission), Some(Due::Completion)) => Some(self.conclude(
                 transmission,
                 level,
             )),

@@ -6,8 +6,8 @@ use Rattle.filter.specs.declared.debounce.TimeBase.TheVariants.{Ns30, Ns100, Us1
 use Rattle.filter.specs.declared.debounce.Debounce.{Debounce}
 
 -- 00: 30 ns, 01: 100 ns, 10: 1 µs, 11: 1 ms
-abbrev pub base_of : ℕ → TimeBase
-base_of w = cond (word_field w 16 2 == 0) Ns30 (cond (word_field w 16 2 == 1) Ns100 (cond (word_field w 16 2 == 2) Us1 Ms1))
+abbrev pub base_at : ℕ → TimeBase
+base_at n = cond (n == 0) Ns30 (cond (n == 1) Ns100 (cond (n == 2) Us1 Ms1))
 
 -- a tick is 10 ns
 abbrev pub base_ticks : TimeBase → ℕ
@@ -23,7 +23,7 @@ base_word Us1 = 2
 base_word Ms1 = 3
 
 abbrev pub debounce_of : ℕ → Debounce
-debounce_of w = record { base = base_of w; time = word_field w 0 16 }
+debounce_of w = record { base = base_at (word_field w 16 2); time = word_field w 0 16 }
 
 abbrev pub word_of_debounce : Debounce → ℕ
 word_of_debounce d = d.time + field_at 16 (base_word d.base)

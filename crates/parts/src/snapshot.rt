@@ -3,7 +3,7 @@ ghost use Rattle.std.specs.Prelude.{◌≡◌};
 ghost use Rattle.parts.specs.Snapshots.{after_reading, cleared, collects, completed, emptied, enabled_as, is_collecting, is_unread, latched_with};
 
 /// How far a channel's part of a snapshot is.
-#[derive(Clone, Copy)]
+#[derive(Clone, Copy, PartialEq, Eq)]
 pub enum Progress {
     /// The word has been read, or there is none.
     Read,
@@ -52,7 +52,7 @@ impl Snapshot {
     pub fn complete(&mut self, word: u32)
         ensures { self.new ≡ completed word self.old }
     {
-        if let Progress::Collecting = self.progress {
+        if self.progress == Progress::Collecting {
             self.latch(word);
         }
     }
@@ -80,7 +80,7 @@ impl Snapshot {
         ensures answer { result ≡ self.old.word }
         ensures after { self.new ≡ after_reading self.old }
     {
-        if let Progress::Unread = self.progress {
+        if self.progress == Progress::Unread {
             self.progress = Progress::Read;
         }
         self.word
@@ -89,18 +89,12 @@ impl Snapshot {
     pub fn collecting(&self) -> bool
         ensures { result ≡ is_collecting self.now }
     {
-        match self.progress {
-            Progress::Collecting => true,
-            _ => false,
-        }
+        self.progress == Progress::Collecting
     }
 
     pub fn unread(&self) -> bool
         ensures { result ≡ is_unread self.now }
     {
-        match self.progress {
-            Progress::Unread => true,
-            _ => false,
-        }
+        self.progress == Progress::Unread
     }
 }

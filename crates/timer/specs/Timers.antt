@@ -6,8 +6,8 @@ use Rattle.timer.specs.declared.Base.TheVariants.{Ns100, Us1, Ms1, S1}
 use Rattle.timer.specs.declared.Timer.{Timer}
 
 -- 00: 100 ns, 01: 1 µs, 10: 1 ms, 11: 1 s
-abbrev pub base_of : ℕ → Base
-base_of w = cond (word_field w 1 2 == 0) Ns100 (cond (word_field w 1 2 == 1) Us1 (cond (word_field w 1 2 == 2) Ms1 S1))
+abbrev pub base_at : ℕ → Base
+base_at n = cond (n == 0) Ns100 (cond (n == 1) Us1 (cond (n == 2) Ms1 S1))
 
 -- a tick is 10 ns
 abbrev pub base_ticks : Base → ℕ
@@ -59,8 +59,12 @@ reloads on b t = on && (not t.enabled || not (same_base t.base b))
 abbrev pub settings : Bool → Base → Timer → Timer
 settings on b t = record { enabled = on; base = b; preload = t.preload; left = t.left; wait = t.wait }
 
+-- the settings are taken, and the timer is loaded where a write of them loads it
+abbrev pub set_to : Bool → Base → Timer → Timer
+set_to on b t = cond (reloads on b t) (loaded (settings on b t)) (settings on b t)
+
 abbrev pub control_written : ℕ → Timer → Timer
-control_written w t = cond (reloads (word_flag w 0) (base_of w) t) (loaded (settings (word_flag w 0) (base_of w) t)) (settings (word_flag w 0) (base_of w) t)
+control_written w t = set_to (word_flag w 0) (base_at (word_field w 1 2)) t
 
 abbrev pub word_of_control : Timer → ℕ
 word_of_control t = bit_at 0 t.enabled + field_at 1 (base_word t.base)

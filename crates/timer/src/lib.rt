@@ -1,19 +1,20 @@
 //! The interval timer.
 #![tactic(auto)]
 
-ghost use Rattle.std.specs.Prelude.{◌≡◌, ◌^◌, ◌<◌};
-ghost use Rattle.timer.specs.Timers.{base_of, base_ticks, base_word, word_of_control, control_written, expires, loaded, new_timer, period_ended, preload_written, reloads, same_base, ticked};
+ghost use Rattle.std.specs.Prelude.{◌≡◌, refl};
+ghost use Rattle.timer.specs.Timers.{base_at, base_ticks, base_word, word_of_control, control_written, expires, loaded, new_timer, period_ended, preload_written, reloads, ticked};
+ghost use Rattle.timer.specs.declared.Base.TheVariants.{Ns100, Us1, Ms1, S1};
 ghost use Rattle.timer.specs.Intervals.{KeepsInterval};
 
-use bits::{field, flag, with_bit, with_field};
+use bits::{Setting, flag, setting_at, with_bit, with_setting};
 
 /// The timer's time base, ITTB.
-#[derive(Clone, Copy)]
+#[derive(Clone, Copy, PartialEq, Eq)]
 pub enum Base {
-    Ns100,
-    Us1,
-    Ms1,
-    S1,
+    Ns100 = 0,
+    Us1 = 1,
+    Ms1 = 2,
+    S1 = 3,
 }
 
 /// The interval timer: it expires each ITPRE periods of its base.
@@ -31,12 +32,19 @@ pub struct Timer {
     pub wait: u32,
 }
 
-impl Base {
-    /// The base that bits 2 and 1 of a word name.
-    fn decode(word: u32) -> Base
-        ensures { result ≡ base_of word }
-    {
-        match field(word, 1, 2) {
+impl Setting for Base {
+    const WIDTH: u32 = 2;
+
+    ghost WIDTH = { 2 };
+
+    ghost named = { base_at };
+
+    ghost number_of = { base_word };
+
+    ghost reads_back = { elim [ Ns100 ↦ refl | Us1 ↦ refl | Ms1 ↦ refl | S1 ↦ refl ] };
+
+    fn from_number(number: u32) -> Base {
+        match number {
             0 => Base::Ns100,
             1 => Base::Us1,
             2 => Base::Ms1,
@@ -44,6 +52,12 @@ impl Base {
         }
     }
 
+    fn number(self) -> u32 {
+        self as u32
+    }
+}
+
+impl Base {
     fn ticks(self) -> u32
         ensures { result ≡ base_ticks self }
     {
@@ -53,24 +67,6 @@ impl Base {
             Base::Ms1 => 100_000,
             Base::S1 => 100_000_000,
         }
-    }
-
-    fn word(self) -> u32
-        ensures answer { result ≡ base_word self }
-        ensures below { result < 2 ^ 2 }
-    {
-        match self {
-            Base::Ns100 => 0,
-            Base::Us1 => 1,
-            Base::Ms1 => 2,
-            Base::S1 => 3,
-        }
-    }
-
-    fn same(self, other: Base) -> bool
-        ensures { result ≡ same_base self other }
-    {
-        self.word() == other.word()
     }
 }
 
@@ -130,7 +126,7 @@ impl Timer {
     fn loads(&self, enabled: bool, base: Base) -> bool
         ensures { result ≡ reloads enabled base self.now }
     {
-        enabled && (!self.enabled || !self.base.same(base))
+        enabled && (!self.enabled || self.base != base)
     }
 
     /// Interval Timer Control: it loads when ITEN rises, and when ITTB changes while ITEN stays 1.
@@ -138,7 +134,7 @@ impl Timer {
         ensures { self.new ≡ control_written word self.old }
     {
         let enabled = flag(word, 0);
-        let base = Base::decode(word);
+        let base = setting_at(word, 1);
         let loads = self.loads(enabled, base);
         self.enabled = enabled;
         self.base = base;
@@ -151,7 +147,7 @@ impl Timer {
         ensures { result ≡ word_of_control self.now }
     {
         let word = with_bit(0, 0, self.enabled);
-        with_field(word, 1, 2, self.base.word())
+        with_setting(word, 1, self.base)
     }
 
     pub fn write_preload(&mut self, value: u32)
