@@ -1,10 +1,9 @@
 -- The card's record with one part replaced, and one record of its table.
-use Rattle.std.specs.Prelude.{ℕ, false, List, slice_index_or, slice_set}
+use Rattle.std.specs.Prelude.{ℕ, false, None, List, slice_index_or, slice_set}
 use Rattle.filter.specs.declared.debounce.TimeBase.TheVariants.{Ns30}
 use Rattle.filter.specs.Filters.{new_timing, no_samples}
 use Rattle.frame.specs.declared.format.Code.TheVariants.{Binary}
 use Rattle.counter.specs.Counters.{power_on_counter}
-use Rattle.controller.specs.declared.control.ParityCheck.TheVariants.{Off as NoCheck}
 use Rattle.controller.specs.declared.control.Start.TheVariants.{Request}
 use Rattle.parts.specs.Interrupts.{quiet}
 use Rattle.parts.specs.Snapshots.{emptied}
@@ -30,7 +29,7 @@ blank = record {
   mode = Off Zeros;
   counter = power_on_counter;
   ssi = record {
-    control = record { rate = 0; data_bits = 0; extra_bits = 0; check = NoCheck; odd = false; code = Binary; start = Request; delay = 0 };
+    control = record { rate = 0; data_bits = 0; extra_bits = 0; check = None; odd = false; code = Binary; start = Request; delay = 0 };
     while_busy = false;
     extra_status = 0;
     fault = false;

@@ -1,5 +1,5 @@
 -- The sensors of each field are sound, and there is none above channel 7.
-use Rattle.std.specs.Prelude.{◌≡◌, ℕ, ◌<◌, ◌≤◌, Bool, true, false, cond, IfSome, Some, Option, ◌==◌, ◌≢◌, refl}
+use Rattle.std.specs.Prelude.{◌≡◌, ℕ, ◌<◌, Bool, true, false, cond, IfSome, Some, Option, ◌==◌, ◌≢◌, refl}
 use Rattle.std.proofs.Common.{◌∙◌, arith}
 use Rattle.std.proofs.lemmas.Bool.{ne_eqb}
 use Rattle.sensor.specs.Model.{Model, Sound}

@@ -1,4 +1,6 @@
 //! The field without a sensor.
+#![tactic(auto, using(crate::proofs::FieldLaws::none_acts))]
+
 ghost use Rattle.field.specs.Wiring.{none_wired};
 ghost use Rattle.field.specs.FieldsSound.{none_sounds};
 

@@ -4,6 +4,9 @@ ghost use Rattle.field.specs.Wiring.{FieldModel, Sounds, advanced_at, level_at, 
 
 use sensor::refusal::FieldRefusal;
 
+/// How many channels there are.
+pub const CHANNELS: u32 = 8;
+
 /// The sensors of eight channels, one or none at each.
 pub trait Field {
     /// What is wired to each channel.

@@ -2,8 +2,6 @@
 ghost use Rattle.field.specs.OwnSensor.{OwnSensor};
 
 /// Whatever is done at any channels, a sensor is where the acts at its own channel took it.
-pub fn channels_are_apart() -> u8
+pub fn channels_are_apart()
     ensures own { OwnSensor }
-{
-    0
-}
+{}

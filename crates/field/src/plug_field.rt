@@ -1,11 +1,13 @@
 //! What a plug does as a field, and how a sensor is plugged.
+#![tactic(auto, using(crate::proofs::FieldLaws::acts_here, crate::proofs::FieldLaws::acts_below, crate::proofs::FieldLaws::plug_here, crate::specs::FieldsSound::plug_below))]
+
 ghost use Rattle.std.specs.Prelude.{◌≡◌, ◌<◌, ◌≤◌, MatchResult};
 ghost use Rattle.sensor.specs.Model.{reset_to};
 ghost use Rattle.field.specs.Plugging.{plug_model, not_plugged};
 ghost use Rattle.field.specs.Wiring.{plugged};
 ghost use Rattle.field.specs.FieldsSound.{plug_sounds};
 
-use crate::field::Field;
+use crate::field::{CHANNELS, Field};
 use crate::plug::Plug;
 use sensor::refusal::FieldRefusal;
 use sensor::sensor::Sensor;
@@ -64,7 +66,7 @@ pub fn plug<S: Sensor, F: Field>(
 ) -> Result<Plug<S, F>, NotPlugged<S, F>>
     ensures { MatchResult result (λ p. (channel < 8) × (plug_model S.Sensor.meaning F.Field.wired p ≡ plugged channel (reset_to (S.Sensor.meaning sensor)) (F.Field.wired below))) (λ e. (8 ≤ channel) × (e ≡ not_plugged sensor below)) }
 {
-    if channel > 7 {
+    if channel >= CHANNELS {
         return Err(NotPlugged {
             refusal: FieldRefusal::Channel,
             sensor,

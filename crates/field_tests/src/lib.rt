@@ -22,7 +22,7 @@ mod tests {
         let format = Format {
             data_bits: 4,
             extra_bits: 0,
-            parity: Parity::Absent,
+            parity: None,
             code: Code::Gray,
         };
         Constants {
@@ -37,7 +37,10 @@ mod tests {
         let format = Format {
             data_bits: 8,
             extra_bits: 2,
-            parity: Parity::Even(Span::Both),
+            parity: Some(Parity {
+                span: Span::Both,
+                odd: false,
+            }),
             code: Code::Binary,
         };
         Constants {
@@ -53,35 +56,21 @@ mod tests {
         Ok(plug(5, GraySensor::new(disc())?, rails)?)
     }
 
-    fn code_of(answer: Result<(), FieldRefusal>) -> u8 {
-        match answer {
-            Ok(()) => 0,
-            Err(refusal) => refusal.code(),
-        }
+    // What a plug of a disc at a channel answers.
+    fn plug_disc(channel: u32) -> Result<(), FieldRefusal> {
+        plug(channel, GraySensor::new(disc())?, EmptyField)?;
+        Ok(())
     }
 
-    // What a plug at a channel answers.
-    fn plugged_at(channel: u32) -> u8 {
-        let sensor = match GraySensor::new(disc()) {
-            Ok(sensor) => sensor,
-            Err(refusal) => return refusal.code(),
-        };
-        match plug(channel, sensor, EmptyField) {
-            Ok(_) => 0,
-            Err(no) => no.refusal.code(),
+    // The next bits of a channel, clocked in alone or with the other channels; none where it has no sensor.
+    fn next_bits<F: Field>(field: &mut F, channel: u32, clocks: u8, bits: u32) -> Option<u64> {
+        let mut word = 0;
+        for _ in 0..bits {
+            advance_all(field, 0xFF);
+            word = word << 1 | u64::from(field.level(channel)?);
+            advance_all(field, clocks);
         }
-    }
-
-    // The next bit of a channel, clocked in alone or with the other channels.
-    fn next_bit<F: Field>(field: &mut F, channel: u32, clocks: u8) -> u64 {
-        advance_all(field, 0xFF);
-        let bit = match field.level(channel) {
-            Some(true) => 1,
-            Some(false) => 0,
-            None => 2,
-        };
-        advance_all(field, clocks);
-        bit
+        Some(word)
     }
 
     #[test]
@@ -90,18 +79,14 @@ mod tests {
             Ok(field) => field,
             Err(_) => return Err(Fail::new("no bench")),
         };
-        assert_eq!(rt; code_of(field.turn(5, 9)), 0);
-        assert_eq!(rt; code_of(field.turn(2, 200)), 0);
+        assert_eq!(rt; field.turn(5, 9), Ok(()));
+        assert_eq!(rt; field.turn(2, 200), Ok(()));
         // IN1 of channels 2 and 5 are bits 7 and 16
         assert_eq!(rt; compose(&field, 0), 0x10080);
         advance_all(&mut field, 0xDF);
-        assert_eq!(rt; code_of(field.turn(5, 6)), 0);
-        let mut word = 0u64;
-        for _ in 0..4u32 {
-            word = word << 1 | next_bit(&mut field, 5, 0xDF);
-        }
+        assert_eq!(rt; field.turn(5, 6), Ok(()));
         // the Gray word of 9, which it had at the first fall; the rail has seen no fall
-        assert_eq!(rt; word, 0b1101);
+        assert_eq!(rt; next_bits(&mut field, 5, 0xDF, 4), Some(0b1101));
         assert_eq!(rt; compose(&field, 0xFFFFFF), 0xFFFFFF);
         // the fifth rise: low for 1,000 ticks
         advance_all(&mut field, 0xFF);
@@ -112,11 +97,7 @@ mod tests {
         assert_eq!(rt; compose(&field, 0), 0x10080);
         // the rail: 11001000, extra 10, four ones and an even parity bit
         advance_all(&mut field, 0xFB);
-        let mut word = 0u64;
-        for _ in 0..11u32 {
-            word = word << 1 | next_bit(&mut field, 2, 0xFB);
-        }
-        assert_eq!(rt; word, 0b11001000_10_0);
+        assert_eq!(rt; next_bits(&mut field, 2, 0xFB, 11), Some(0b11001000_10_0));
         Ok(())
     }
 
@@ -126,12 +107,14 @@ mod tests {
             Ok(field) => field,
             Err(_) => return Err(Fail::new("no bench")),
         };
-        assert_eq!(rt; code_of(field.turn(5, 16)), 4);
-        assert_eq!(rt; code_of(field.turn(4, 16)), 3);
-        assert_eq!(rt; code_of(field.turn(8, 4_000_000_000)), 3);
+        assert_eq!(rt; field.turn(5, 16), Err(FieldRefusal::Value));
+        assert_eq!(rt; field.turn(4, 16), Err(FieldRefusal::Channel));
+        assert_eq!(rt; field.turn(8, 4_000_000_000), Err(FieldRefusal::Channel));
         assert!(rt; field.level(4).is_none());
-        assert_eq!(rt; plugged_at(8), 3);
-        assert_eq!(rt; plugged_at(7), 0);
+        assert_eq!(rt; plug_disc(8), Err(FieldRefusal::Channel));
+        assert_eq!(rt; plug_disc(7), Ok(()));
+        assert_eq!(rt; FieldRefusal::Channel.code(), 3);
+        assert_eq!(rt; FieldRefusal::Value.code(), 4);
         Ok(())
     }
 }

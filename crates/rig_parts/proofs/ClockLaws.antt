@@ -7,6 +7,7 @@ use Rattle.bits.specs.Words.{word_flag}
 use Rattle.sensor.specs.Model.{Model, Sound, advanced}
 use Rattle.sensor.specs.Sending.{ClockAt, after}
 use Rattle.sensor.proofs.Soundness.{advanced_sound}
+use Rattle.field.proofs.FieldLaws.{mapped_same}
 use Rattle.field.specs.Wiring.{FieldModel, Sounds, at_channel}
 use Rattle.rig_parts.specs.Clocks.{clocked, OwnClock}
 
@@ -50,10 +51,6 @@ sound_on b (Some m) h = advanced_sound m b h
 pub clocked_sounds : (f : FieldModel) (c : ℕ) → Sounds f → Sounds (clocked f c)
 unfolding clocked
 clocked_sounds f c s = record { each = λ k. sound_on (word_flag c k) (f k) (s.each k); above = λ k high. ap (option_map (λ m. advanced m (word_flag c k))) (s.above k high) }
-
-mapped_same : (o : Option Model) → o ≡ option_map (λ m. m) o
-mapped_same None = refl
-mapped_same (Some m) = refl
 
 mapped_twice : (g h : Model → Model) (o : Option Model) → option_map g (option_map h o) ≡ option_map (λ m. g (h m)) o
 mapped_twice g h None = refl

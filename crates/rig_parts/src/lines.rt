@@ -2,7 +2,7 @@
 ghost use Rattle.std.specs.Prelude.{◌≡◌, ◌+◌, ◌*◌, ◌<◌};
 ghost use Rattle.rig_parts.specs.Lines.{CarriesLevels, composed, with_bit, with_level};
 
-use field::field::Field;
+use field::field::{CHANNELS, Field};
 
 /// A word with the bit at a place made a level.
 fn put_bit(word: u32, place: u32, level: bool) -> u32
@@ -22,19 +22,18 @@ fn put_level(lines: u32, channel: u32, level: Option<bool>) -> u32
     requires { channel < 8 }
     ensures { result ≡ with_level lines channel level }
 {
-    match level {
-        Some(shown) => put_bit(lines, 3 * channel + 1, shown),
-        None => lines,
-    }
+    level.map_or(lines, |shown| put_bit(lines, 3 * channel + 1, shown))
 }
 
 /// The lines of a tick with each sensor's level on its channel's IN1.
+#[tactic(auto, using(crate::proofs::LineLaws::composed_none, crate::proofs::LineLaws::composed_more))]
 pub fn compose<F: Field>(field: &F, lines: u32) -> u32
     ensures answer { result ≡ composed (F.Field.wired field.now) 8 lines }
     ensures levels { CarriesLevels (F.Field.wired field.now) lines result }
 {
     let mut all = lines;
-    for k in 0..8u32 {
+    // channels go by number: a field is no list that could be iterated
+    for k in 0..CHANNELS {
         all = put_level(all, k, field.level(k));
     }
     all

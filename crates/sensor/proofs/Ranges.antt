@@ -1,5 +1,5 @@
 -- What it says of the constants that they are in range.
-use Rattle.std.proofs.Common.{◌≡◌, ℕ, ◌*◌, ◌%◌, ◌^◌, ◌<◌, ◌≤◌, true, ◌&&◌, ltb, leb, ap, arith}
+use Rattle.std.proofs.Common.{◌≡◌, ◌*◌, ◌%◌, ◌^◌, ◌<◌, ◌≤◌, true, ◌&&◌, ltb, leb, arith}
 use Rattle.std.proofs.lemmas.Bool.{and_parts, leb-true, ltb-true}
 use Rattle.std.proofs.lemmas.Nat.{one_shl}
 use Rattle.sensor.specs.declared.constants.Constants.{Constants}
@@ -31,6 +31,10 @@ ranged c h =
       longest = leb-true c.recovery 3000 paced.1;
     }
 
+-- at most 32 data bits
+pub most_data : (c : Constants) → in_range c ≡ true → c.format.data_bits ≤ 32
+most_data c h = (ranged c h).most
+
 -- 1 shifted by the data bits
-pub position_bound : (c : Constants) (p : ℕ) → in_range c ≡ true → ltb p (1 * 2 ^ c.format.data_bits % 2 ^ 64) ≡ ltb p (2 ^ c.format.data_bits)
-position_bound c p h = ap (ltb p) (one_shl c.format.data_bits 64 (omega (arith, (ranged c h).most)))
+pub data_shifted : (c : Constants) → in_range c ≡ true → 1 * 2 ^ c.format.data_bits % 2 ^ 64 ≡ 2 ^ c.format.data_bits
+data_shifted c h = one_shl c.format.data_bits 64 (omega (arith, most_data c h))

@@ -90,6 +90,10 @@ level_of m = phase_level m.constants m.phase
 unfoldable pub reset_to : Model → Model
 reset_to m = model m.constants m.position Idle true
 
+-- what a turn to a position answers at these constants
+abbrev pub admitted : Constants → ℕ → Result (Unit {0}) FieldRefusal
+admitted c p = cond (nat_lt p (2 ^ c.format.data_bits)) (Ok tt) (Err Value)
+
 -- whether a position fits the data bits
 abbrev pub fits_in : Model → ℕ → Bool
 fits_in m p = nat_lt p (2 ^ m.constants.format.data_bits)

@@ -1,9 +1,8 @@
 -- What a sensor sends, told by the levels of its clock.
-use Rattle.std.specs.Prelude.{◌≡◌, ℕ, suc, ◌+◌, ◌-◌, ◌^◌, ◌≤◌, Bool, true, false, cond, List, [], ◌∷◌, ◌==◌, nat_lt}
+use Rattle.std.specs.Prelude.{◌≡◌, ℕ, suc, ◌+◌, ◌-◌, ◌^◌, ◌≤◌, Bool, true, false, cond, None, List, [], ◌∷◌, ◌==◌, nat_lt}
 use Rattle.frame.specs.Layout.{frame_bits, reading_of}
 use Rattle.frame.specs.ReadBack.{ReadAs}
 use Rattle.frame.specs.declared.format.Code.TheVariants.{Gray}
-use Rattle.frame.specs.declared.format.Parity.TheVariants.{Absent}
 use Rattle.sensor.specs.declared.constants.Constants.{Constants}
 use Rattle.sensor.specs.declared.phase.Phase.{Phase}
 use Rattle.sensor.specs.declared.phase.Phase.TheVariants.{Idle, Sending, Recovering}
@@ -100,7 +99,7 @@ SentIsRead =
 
 -- a sensor of 4 data bits in Gray code at position 9, for the figure below
 abbrev pub at_nine : Model
-at_nine = model (record { format = record { data_bits = 4; extra_bits = 0; parity = Absent; code = Gray }; extra = 0; recovery = 1000 }) 9 Idle true
+at_nine = model (record { format = record { data_bits = 4; extra_bits = 0; parity = None; code = Gray }; extra = 0; recovery = 1000 }) 9 Idle true
 
 -- the levels that it shows after each of some acts
 abbrev pub shown : Model → List Act → List Bool

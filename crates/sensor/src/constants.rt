@@ -19,7 +19,7 @@ impl Constants {
     fn data_bits_in_range(self) -> bool
         ensures { result ≡ data_bits_fit self }
     {
-        1 <= self.format.data_bits && self.format.data_bits <= 32
+        (1..=32).contains(&self.format.data_bits)
     }
 
     fn extra_bits_in_range(self) -> bool
@@ -31,10 +31,11 @@ impl Constants {
     fn recovery_in_range(self) -> bool
         ensures { result ≡ recovery_fits self }
     {
-        1000 <= self.recovery && self.recovery <= 3000
+        (1000..=3000).contains(&self.recovery)
     }
 
     /// Whether a sensor can have these constants.
+    #[tactic(auto, unfolding(crate::specs::Range::in_range))]
     pub fn in_range(self) -> bool
         ensures { result ≡ in_range self }
     {

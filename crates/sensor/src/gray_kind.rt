@@ -1,4 +1,6 @@
 //! What the sensor that keeps a Gray word does.
+#![tactic(auto, unfolding(crate::specs::Model::advanced, crate::specs::Model::level_of, crate::specs::Model::reset_to, crate::specs::Model::turned, crate::specs::Model::turn_answer), using(crate::proofs::KindLaws::gray_fits, crate::proofs::KindLaws::gray_back, crate::proofs::KindLaws::gray_zero))]
+
 ghost use Rattle.std.specs.Prelude.{◌≡◌};
 ghost use Rattle.std.specs.Result.{result_map_both};
 ghost use Rattle.sensor.specs.Kinds.{gray_model};
@@ -17,14 +19,10 @@ impl GraySensor {
     pub fn new(constants: Constants) -> Result<GraySensor, FieldRefusal>
         ensures { result_map_both gray_model (λ e. e) result ≡ made constants }
     {
-        if constants.in_range() {
-            Ok(GraySensor {
-                register: ShiftRegister::idle(constants),
-                word: 0,
-            })
-        } else {
-            Err(FieldRefusal::Value)
-        }
+        Ok(GraySensor {
+            register: ShiftRegister::new(constants)?,
+            word: 0,
+        })
     }
 }
 
@@ -38,21 +36,14 @@ impl Sensor for GraySensor {
     }
 
     fn turn(&mut self, position: u32) -> Result<(), FieldRefusal> {
-        if self.register.allows(position) {
-            self.word = to_gray(position);
-            Ok(())
-        } else {
-            Err(FieldRefusal::Value)
-        }
+        self.register.admit(position)?;
+        self.word = to_gray(position);
+        Ok(())
     }
 
     fn advance(&mut self, clock: bool) {
-        // the number is worked out where a frame begins, and in no other tick
-        if self.register.starts(clock) {
-            self.register.start(clock, from_gray(self.word));
-        } else {
-            self.register.step(clock);
-        }
+        let word = self.word;
+        self.register.advance(clock, || from_gray(word));
     }
 
     fn reset(&mut self) {

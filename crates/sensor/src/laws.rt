@@ -3,11 +3,9 @@ ghost use Rattle.sensor.specs.Sending.{NineIsSent, Recovers, SendsFrame, SentIsR
 
 /// A sensor sends the frame of the position that it has when its clock first falls, and recovers after it;
 /// what it sends is read back as that position.
-pub fn sensors_send_frames() -> u8
+pub fn sensors_send_frames()
     ensures sends { SendsFrame }
     ensures recovers { Recovers }
     ensures read { SentIsRead }
     ensures nine { NineIsSent }
-{
-    0
-}
+{}

@@ -1,4 +1,6 @@
 //! What the sensor that keeps a number does.
+#![tactic(auto, unfolding(crate::specs::Model::advanced, crate::specs::Model::level_of, crate::specs::Model::reset_to, crate::specs::Model::turned, crate::specs::Model::turn_answer))]
+
 ghost use Rattle.std.specs.Prelude.{◌≡◌};
 ghost use Rattle.std.specs.Result.{result_map_both};
 ghost use Rattle.sensor.specs.Kinds.{number_model};
@@ -16,14 +18,10 @@ impl NumberSensor {
     pub fn new(constants: Constants) -> Result<NumberSensor, FieldRefusal>
         ensures { result_map_both number_model (λ e. e) result ≡ made constants }
     {
-        if constants.in_range() {
-            Ok(NumberSensor {
-                register: ShiftRegister::idle(constants),
-                position: 0,
-            })
-        } else {
-            Err(FieldRefusal::Value)
-        }
+        Ok(NumberSensor {
+            register: ShiftRegister::new(constants)?,
+            position: 0,
+        })
     }
 }
 
@@ -37,16 +35,14 @@ impl Sensor for NumberSensor {
     }
 
     fn turn(&mut self, position: u32) -> Result<(), FieldRefusal> {
-        if self.register.allows(position) {
-            self.position = position;
-            Ok(())
-        } else {
-            Err(FieldRefusal::Value)
-        }
+        self.register.admit(position)?;
+        self.position = position;
+        Ok(())
     }
 
     fn advance(&mut self, clock: bool) {
-        self.register.advance(clock, self.position);
+        let position = self.position;
+        self.register.advance(clock, || position);
     }
 
     fn reset(&mut self) {

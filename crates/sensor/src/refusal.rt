@@ -2,13 +2,17 @@
 ghost use Rattle.std.specs.Prelude.{◌≡◌};
 ghost use Rattle.sensor.specs.Codes.{code_of};
 
+use thiserror::Error;
+
 /// Why an act on a field or a sensor is refused. A refused act leaves field and sensor as they were.
-#[derive(Clone, Copy)]
+#[derive(Clone, Copy, Debug, PartialEq, Eq, Error)]
 pub enum FieldRefusal {
     /// The channel is above 7, or it has no sensor.
-    Channel,
+    #[error("there is no sensor at this channel, and none can be there above channel 7")]
+    Channel = 3,
     /// The position does not fit the sensor's data bits, or a constant of a new sensor is out of range.
-    Value,
+    #[error("the position does not fit the data bits, or a constant is out of range")]
+    Value = 4,
 }
 
 impl FieldRefusal {
@@ -16,9 +20,6 @@ impl FieldRefusal {
     pub fn code(self) -> u8
         ensures { result ≡ code_of self }
     {
-        match self {
-            FieldRefusal::Channel => 3,
-            FieldRefusal::Value => 4,
-        }
+        self as u8
     }
 }

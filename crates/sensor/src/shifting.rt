@@ -1,34 +1,43 @@
 //! What the shift register of a sensor does in a tick.
-ghost use Rattle.std.specs.Prelude.{◌≡◌, ◌^◌, true, nat_lt};
-ghost use Rattle.sensor.specs.Model.{begun, next_phase, phase_level, starts_frame, stepped_phase};
-ghost use Rattle.sensor.specs.Range.{in_range};
+ghost use Rattle.std.specs.Prelude.{◌≡◌, ℕ, true};
+ghost use Rattle.std.specs.Result.{result_map_both};
+ghost use Rattle.sensor.specs.Kinds.{at_zero};
+ghost use Rattle.sensor.specs.Model.{admitted, begun, made, next_phase, phase_level, starts_frame, stepped_phase};
 ghost use Rattle.sensor.specs.declared.phase.Phase.TheVariants.{Idle};
 
 use crate::constants::Constants;
 use crate::phase::Phase;
+use crate::refusal::FieldRefusal;
 use crate::shift_register::ShiftRegister;
+use bits::flag;
 use frame::sender::frame_word;
 
 impl ShiftRegister {
-    /// An idle one that has last seen its clock high.
-    pub(crate) fn idle(constants: Constants) -> ShiftRegister
-        requires { in_range constants ≡ true }
-        ensures constants { result.constants ≡ constants }
-        ensures phase { result.phase ≡ Idle }
-        ensures clock { result.clock ≡ true }
+    /// An idle one with these constants that has last seen its clock high; refused if a constant is out of range.
+    pub(crate) fn new(constants: Constants) -> Result<ShiftRegister, FieldRefusal>
+        ensures { result_map_both at_zero (λ e. e) result ≡ made constants }
     {
-        ShiftRegister {
-            constants,
-            phase: Phase::Idle,
-            clock: true,
+        if constants.in_range() {
+            Ok(ShiftRegister {
+                constants,
+                phase: Phase::Idle,
+                clock: true,
+            })
+        } else {
+            Err(FieldRefusal::Value)
         }
     }
 
-    /// Whether a position fits the data bits.
-    pub(crate) fn allows(&self, position: u32) -> bool
-        ensures { result ≡ nat_lt position (2 ^ self.now.constants.format.data_bits) }
+    /// Refuses a position that does not fit the data bits.
+    #[tactic(auto, using(crate::proofs::Ranges::most_data, crate::proofs::Ranges::data_shifted))]
+    pub(crate) fn admit(&self, position: u32) -> Result<(), FieldRefusal>
+        ensures { result ≡ admitted self.now.constants position }
     {
-        (position as u64) < 1u64 << self.constants.format.data_bits
+        if u64::from(position) < 1u64 << self.constants.format.data_bits {
+            Ok(())
+        } else {
+            Err(FieldRefusal::Value)
+        }
     }
 
     /// The level that it shows.
@@ -38,25 +47,21 @@ impl ShiftRegister {
         match self.phase {
             Phase::Idle => true,
             Phase::Sending { frame, rises } => {
-                rises == 0 || (frame >> (self.constants.format.bits() - rises)) % 2 == 1
+                rises == 0 || flag(frame, self.constants.format.bits() - rises)
             }
             Phase::Recovering { .. } => false,
         }
     }
 
     /// Whether a clock level begins a frame.
-    pub(crate) fn starts(&self, clock: bool) -> bool
+    fn starts(&self, clock: bool) -> bool
         ensures { result ≡ starts_frame self.now.phase self.now.clock clock }
     {
-        match self.phase {
-            Phase::Idle => self.clock && !clock,
-            Phase::Sending { .. } => false,
-            Phase::Recovering { .. } => false,
-        }
+        matches!(self.phase, Phase::Idle) && self.clock && !clock
     }
 
     /// Begins the frame of a position, with the clock at a level.
-    pub(crate) fn start(&mut self, clock: bool, position: u32)
+    fn start(&mut self, clock: bool, position: u32)
         ensures constants { self.new.constants ≡ self.old.constants }
         ensures phase { self.new.phase ≡ begun self.old.constants position }
         ensures clock { self.new.clock ≡ clock }
@@ -67,7 +72,7 @@ impl ShiftRegister {
     }
 
     /// One tick that begins no frame.
-    pub(crate) fn step(&mut self, clock: bool)
+    fn step(&mut self, clock: bool)
         ensures constants { self.new.constants ≡ self.old.constants }
         ensures phase { self.new.phase ≡ stepped_phase self.old.constants self.old.phase self.old.clock clock }
         ensures clock { self.new.clock ≡ clock }
@@ -80,39 +85,29 @@ impl ShiftRegister {
         ensures { result ≡ stepped_phase self.now.constants self.now.phase self.now.clock clock }
     {
         match self.phase {
-            Phase::Idle => Phase::Idle,
-            Phase::Sending { frame, rises } => {
-                if self.clock || !clock {
-                    Phase::Sending { frame, rises }
-                } else if rises < self.constants.format.bits() {
-                    Phase::Sending {
-                        frame,
-                        rises: rises + 1,
-                    }
-                } else {
-                    Phase::Recovering {
-                        left: self.constants.recovery,
-                    }
-                }
-            }
-            Phase::Recovering { left } => {
-                if left > 1 {
-                    Phase::Recovering { left: left - 1 }
-                } else {
-                    Phase::Idle
-                }
-            }
+            Phase::Sending { .. } if self.clock || !clock => self.phase,
+            Phase::Sending { frame, rises } if rises < self.constants.format.bits() =>
+                Phase::Sending {
+                    frame,
+                    rises: rises + 1,
+                },
+            Phase::Sending { .. } => Phase::Recovering {
+                left: self.constants.recovery,
+            },
+            Phase::Recovering { left } if left > 1 => Phase::Recovering { left: left - 1 },
+            Phase::Idle | Phase::Recovering { .. } => Phase::Idle,
         }
     }
 
-    /// One tick, for a kind that has its position at hand.
-    pub(crate) fn advance(&mut self, clock: bool, position: u32)
+    /// One tick; the position is asked for where a frame begins, and in no other tick.
+    pub(crate) fn advance<P: FnOnce() -> u32 + Drop>(&mut self, clock: bool, position: P)
+        requires { P.IsAlwaysCallable position }
         ensures constants { self.new.constants ≡ self.old.constants }
-        ensures phase { self.new.phase ≡ next_phase self.old.constants position self.old.phase self.old.clock clock }
+        ensures phase { (p : ℕ) → ((q : ℕ) → P.post position q → q ≡ p) → self.new.phase ≡ next_phase self.old.constants p self.old.phase self.old.clock clock }
         ensures clock { self.new.clock ≡ clock }
     {
         if self.starts(clock) {
-            self.start(clock, position);
+            self.start(clock, position());
         } else {
             self.step(clock);
         }

@@ -65,7 +65,10 @@ fn turntable() -> Constants {
     let format = Format {
         data_bits: 12,
         extra_bits: 1,
-        parity: Parity::Odd(Span::Both),
+        parity: Some(Parity {
+            span: Span::Both,
+            odd: true,
+        }),
         code: Code::Gray,
     };
     Constants {
@@ -110,12 +113,12 @@ impl Hall {
     }
 
     fn move_carriage(&mut self, target: u32) {
-        for _ in self.carriage..target {
-            self.carriage = self.carriage.saturating_add(1);
+        for step in self.carriage..target {
+            self.carriage = step + 1;
             self.hold();
         }
-        for _ in target..self.carriage {
-            self.carriage = self.carriage.saturating_sub(1);
+        for step in (target..self.carriage).rev() {
+            self.carriage = step;
             self.hold();
         }
     }
@@ -161,8 +164,7 @@ fn main(rt: HostRuntime) -> io::Result<()> {
     for seat in SEATS.iter() {
         hall.move_carriage(seat.rail);
         let _ = hall.field.turn(1, seat.turntable);
-        if let Ok(found) = hall.measure() {
-            let (rail, turntable) = (found.rail, found.turntable);
+        if let Ok(Delivered { rail, turntable }) = hall.measure() {
             println!(rt;
                 "seat {}: rail set {} delivered {rail}, turntable set {} delivered {turntable}",
                 seat.number, seat.rail, seat.turntable
