@@ -9,7 +9,7 @@ use controller::control::Start;
 use controller::phase::Phase;
 use controller::registers::{Completed, Ssi};
 use counter::counter::Counter;
-use counter_count::levels::Levels;
+use counter_count::levels::{Change, Levels};
 use filter::debounce::Debounce;
 use parts::input::Input;
 use parts::interrupt::Interrupt;
@@ -84,7 +84,7 @@ impl Channel {
     fn count(&mut self, before: Levels, after: Levels)
         ensures { self.new ≡ counted before after self.old }
     {
-        let causes = self.counter.tick(before, after);
+        let causes = self.counter.tick(Change { before, after });
         self.raise(causes.matched, causes.control);
     }
 
