@@ -1,1 +1,1 @@
-mod Rests
+pub mod Rests

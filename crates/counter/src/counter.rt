@@ -90,6 +90,7 @@ impl Counter {
 
     /// A tick in which no level changes; says whether the count came to the compare value. The index mode has no event then.
     // `tick` gives the same; this short way stays beside it for speed, since almost every tick is such a one.
+    #[tactic(auto, using(crate::proofs::Rests::rest_ticked, crate::proofs::Rests::rest_causes_lem))]
     pub fn rest(&mut self, levels: Levels) -> bool
         ensures answer { rest_causes result ≡ tick_causes levels levels self.old }
         ensures after { self.new ≡ ticked levels levels self.old }

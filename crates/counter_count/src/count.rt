@@ -191,6 +191,7 @@ impl Count {
 
     /// A tick in which no level changes: there is no event on I, and only the clock makes steps. The levels are as filtered.
     // `tick` gives the same; this short way stays beside it for speed, since almost every tick is such a one.
+    #[tactic(auto, using(crate::proofs::Rests::rest_ticked, crate::proofs::Rests::rest_outcome))]
     pub fn rest(&mut self, levels: Levels) -> Outcome
         ensures answer { result ≡ count_outcome levels levels self.old }
         ensures after { self.new ≡ count_ticked levels levels self.old }

@@ -1,1 +1,1 @@
-mod Lows
+pub mod Lows

@@ -1,18 +1,14 @@
 -- The total one step on, and after a load.
-use Rattle.std.proofs.Common.{◌≡◌, ℕ, zero, suc, ◌+◌, ◌-◌, ◌%◌, ◌^◌, ◌<◌, true, false, ℤ, pos, negsuc, ◌+ℤ◌, sym, refl, ap, ◌∙◌, arith}
+use Rattle.std.proofs.Common.{◌≡◌, ℕ, ◌+◌, ◌-◌, ◌%◌, ◌^◌, ◌<◌, true, false, ℤ, pos, negsuc, ◌+ℤ◌, sym, ap, ◌∙◌, arith}
 use lib.IntN.{+ℤ_assoc, +ℤ_idr, +ℤ_one, -ℤ_one, suc_ℤ, pred_ℤ}
 use Rattle.counter_count.specs.Counts.{next_value}
 use Rattle.tally.specs.Tally.{modulo}
 
 modulo_up : (z : ℤ) → modulo (suc_ℤ z) ≡ (modulo z + 1) % 2 ^ 32
-modulo_up (pos n) = omega arith
-modulo_up (negsuc zero) = refl
-modulo_up (negsuc (suc n)) = omega arith
+modulo_up z = grind arith
 
 modulo_down : (z : ℤ) → modulo (pred_ℤ z) ≡ (modulo z + (2 ^ 32 - 1)) % 2 ^ 32
-modulo_down (pos zero) = refl
-modulo_down (pos (suc n)) = omega arith
-modulo_down (negsuc n) = omega arith
+modulo_down z = grind arith
 
 module _ (load : ℕ) (sum : ℤ) where
   pub total_up : modulo (pos load +ℤ (sum +ℤ pos 1)) ≡ next_value true (modulo (pos load +ℤ sum))

@@ -4,22 +4,19 @@
 ghost use Rattle.tally.specs.Laws.{CountAlone, Figures, TallyStands};
 
 /// A tally of loads and steps stands for the count, whatever call comes next.
-pub fn tally_stands() -> u8
+#[tactic(auto, using(crate::proofs::Stands::tally_stands_lem))]
+pub fn tally_stands()
     ensures { TallyStands }
-{
-    0
-}
+{}
 
 /// What becomes of the count depends on it and the call alone, and not on the rest of the counter.
-pub fn count_alone() -> u8
+#[tactic(auto, unfolding(counter::specs::Counters::ticked, counter::specs::Registers::commanded, counter::specs::Registers::compare_written, counter::specs::Registers::control_written, counter::specs::Registers::data_read, counter::specs::Registers::entered, counter::specs::Registers::left, counter::specs::Registers::preload_loaded, counter::specs::Registers::preload_written, counter::specs::Registers::status_cleared))]
+pub fn count_alone()
     ensures { CountAlone }
-{
-    0
-}
+{}
 
 /// Worked examples from power-on by registers and ticks.
-pub fn figures() -> u8
+#[tactic(auto, unfolding(counter::specs::Counters::ticked, counter::specs::Registers::commanded, counter::specs::Registers::control_written, counter::specs::Registers::preload_written, counter_control::specs::Words::decoded, counter_count::specs::Ticks::advanced, counter_count::specs::Ticks::advance_outcome))]
+pub fn figures()
     ensures { Figures }
-{
-    0
-}
+{}
