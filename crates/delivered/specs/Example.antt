@@ -1,7 +1,6 @@
 -- One delivered position, computed: the premises of the law are met by a list of calls from power-on.
-use Rattle.std.specs.Prelude.{◌≡◌, true, List, [], ◌∷◌, replicate, Ok}
+use Rattle.std.specs.Prelude.{◌≡◌, true, List, [], ◌∷◌, replicate, None, Ok}
 use Rattle.frame.specs.declared.format.Code.TheVariants.{Binary}
-use Rattle.frame.specs.declared.format.Parity.TheVariants.{Absent}
 use Rattle.sensor.specs.declared.phase.Phase.TheVariants.{Idle}
 use Rattle.sensor.specs.Model.{Model, model}
 use Rattle.field.specs.Wiring.{FieldModel, Sounds, none_wired, plugged}
@@ -12,7 +11,7 @@ use Rattle.delivered.specs.Delivery.{Completes, Course, data_at, ended_on, read_
 
 -- a sensor of two data bits at position 2
 abbrev pub at_two : Model
-at_two = model (record { format = record { data_bits = 2; extra_bits = 0; parity = Absent; code = Binary }; extra = 0; recovery = 1000 }) 2 Idle true
+at_two = model (record { format = record { data_bits = 2; extra_bits = 0; parity = None; code = Binary }; extra = 0; recovery = 1000 }) 2 Idle true
 
 -- two plugs over the empty field: that sensor at channel 0, and its like at channel 3
 abbrev pub two_plugs : FieldModel
