@@ -82,6 +82,7 @@ impl Ssi {
     }
 
     /// A write to the SSI Mode Control Register.
+    #[tactic(auto, unfolding(crate::specs::Registers::control_written))]
     pub fn write_control(&mut self, word: u32) -> Result<(), Refusal>
         ensures answer { result ≡ control_answer word }
         ensures after { self.new ≡ control_written word self.old }
@@ -91,6 +92,10 @@ impl Ssi {
     }
 
     /// A request: starts a transmission unless the sensor is active or the clock rate is 0.
+    #[tactic(
+        auto,
+        unfolding(crate::specs::Registers::phase_requested, crate::specs::Registers::requested)
+    )]
     pub fn request(&mut self, phase: &mut Phase)
         ensures phase { phase.new ≡ phase_requested self.old phase.old }
         ensures after { self.new ≡ requested phase.old self.old }
@@ -138,6 +143,14 @@ impl Ssi {
     }
 
     /// A tick with the filtered data line at `level`; answers a transmission that completes.
+    #[tactic(
+        auto,
+        unfolding(
+            crate::specs::Phase::phase_ticked,
+            crate::specs::Registers::completion,
+            crate::specs::Registers::ticked
+        )
+    )]
     pub fn tick(&mut self, phase: &mut Phase, level: bool) -> Option<Completed>
         ensures answer { result ≡ completion level phase.old }
         ensures phase { phase.new ≡ phase_ticked level phase.old }
