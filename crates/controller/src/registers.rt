@@ -92,10 +92,7 @@ impl Ssi {
     }
 
     /// A request: starts a transmission unless the sensor is active or the clock rate is 0.
-    #[tactic(
-        auto,
-        unfolding(crate::specs::Registers::phase_requested, crate::specs::Registers::requested)
-    )]
+    #[tactic(auto, unfolding(crate::specs::Registers::phase_requested, crate::specs::Registers::requested))]
     pub fn request(&mut self, phase: &mut Phase)
         ensures phase { phase.new ≡ phase_requested self.old phase.old }
         ensures after { self.new ≡ requested phase.old self.old }
@@ -143,14 +140,7 @@ impl Ssi {
     }
 
     /// A tick with the filtered data line at `level`; answers a transmission that completes.
-    #[tactic(
-        auto,
-        unfolding(
-            crate::specs::Phase::phase_ticked,
-            crate::specs::Registers::completion,
-            crate::specs::Registers::ticked
-        )
-    )]
+    #[tactic(auto, unfolding(crate::specs::Phase::phase_ticked, crate::specs::Registers::completion, crate::specs::Registers::ticked))]
     pub fn tick(&mut self, phase: &mut Phase, level: bool) -> Option<Completed>
         ensures answer { result ≡ completion level phase.old }
         ensures phase { phase.new ≡ phase_ticked level phase.old }
