@@ -1,5 +1,5 @@
 -- A frame on the line is completed with its position.
-use Rattle.std.proofs.Common.{◌≡◌, ℕ, ◌+◌, ◌-◌, ◌*◌, ◌^◌, ◌<◌, ◌≤◌, Bool, true, cond, not, ◌||◌, eqb, Some, None, refl, ap, ◌∙◌, subst, arith}
+use Rattle.std.proofs.Common.{◌≡◌, ℕ, ◌+◌, ◌-◌, ◌*◌, ◌^◌, ◌<◌, ◌≤◌, Bool, true, not, ◌||◌, eqb, refl, ap, ◌∙◌, subst, arith}
 use Rattle.std.proofs.lemmas.Nat.Bits.{same_from_bits_below}
 use Rattle.std.proofs.lemmas.Bool.{eq-eqb}
 use Rattle.std.proofs.lemmas.Bool.Decides.{nat_tests}
@@ -29,6 +29,4 @@ delivers f H line p x h c on =
     let taken : taken_in (phase_before f H line τ) ≡ word_of_frame f p x = sampled_is (frame_bits f) H line _ _ (takes_bits f H line h) (frame_fits f p x c) on in
     let due : eqb τ τ ≡ true = eq-eqb τ τ refl in
     let position : (reading_of f (taken_in (phase_before f H line τ))).number ≡ p = ap (λ w. (reading_of f w).number) taken ∙ (reads_back f p x c).number in
-    completes f H line τ h
-    ∙ ap (λ b. cond b (Some (record { word = (reading_of f (taken_in (phase_before f H line τ))).number; fault = bad })) None) due
-    ∙ ap (λ q. Some (record { word = q; fault = bad })) position
+    rw (completes f H line τ h, due, position)

@@ -22,8 +22,7 @@ collected H line zero = 0
 collected H line (suc r) = collected H line r * 2 + bit (line (2 * (suc r * H)))
 
 bit_most : (x : Bool) → bit x ≤ 1
-bit_most true = omega arith
-bit_most false = omega arith
+bit_most x = grind (arith, nat_tests)
 
 pub collected_below : (H : ℕ) (line : ℕ → Bool) (r : ℕ) → collected H line r < 2 ^ r
 collected_below H line zero = omega arith
@@ -40,20 +39,21 @@ high_bit w k x =
     ap (λ n. eqb n 1) (bit_at-suc (w * 2 + bit x) k ∙ ap (λ n. n / 2 ^ k % 2) half)
 
 -- each bit of the word is the level in its tick
-pub collected_bit : (H : ℕ) (line : ℕ → Bool) (r i : ℕ) → 1 ≤ i → i ≤ r → word_flag (collected H line r) (r - i) ≡ line (2 * (i * H))
-collected_bit H line zero i p q = absurd (omega arith)
-collected_bit H line (suc r) i p q = go (cases_eq i (suc r)) (λ l. collected_bit H line r i p l)
-  where
-    go : (i ≡ suc r) ⊎ (i ≡ suc r → ⊥) → (i ≤ r → word_flag (collected H line r) (r - i) ≡ line (2 * (i * H))) → word_flag (collected H line (suc r)) (suc r - i) ≡ line (2 * (i * H))
-    go (inl e) above =
-        let z : suc r - i ≡ 0 = omega arith in
-        ap (word_flag (collected H line (suc r))) z ∙ low_bit (collected H line r) (line (2 * (suc r * H))) ∙ ap (λ n. line (2 * (n * H))) (sym e)
-    go (inr ne) above =
-        let k : suc r - i ≡ suc (r - i) = omega (arith, ne) in
-        ap (word_flag (collected H line (suc r))) k ∙ high_bit (collected H line r) (r - i) (line (2 * (suc r * H))) ∙ above (omega (arith, ne))
+collected_bit : (H : ℕ) (line : ℕ → Bool) (r k : ℕ) → k < r → word_flag (collected H line r) k ≡ line (2 * ((r - k) * H))
+collected_bit H line zero k l = absurd (omega arith)
+collected_bit H line (suc r) zero l =
+    let e : suc r ≡ suc r - 0 = omega arith in
+    low_bit (collected H line r) (line (2 * (suc r * H))) ∙ ap (λ n. line (2 * (n * H))) e
+collected_bit H line (suc r) (suc k) l =
+    let e : r - k ≡ suc r - suc k = omega arith in
+    high_bit (collected H line r) k (line (2 * (suc r * H))) ∙ collected_bit H line r k (omega arith) ∙ ap (λ n. line (2 * (n * H))) e
 
 pub collected_sampled : (H : ℕ) (line : ℕ → Bool) (n : ℕ) → Sampled n H line (collected H line n)
-collected_sampled H line n = record { below = collected_below H line n; bits = collected_bit H line n }
+collected_sampled H line n =
+    record {
+      below = collected_below H line n;
+      bits = λ i p q. let e : n - (n - i) ≡ i = omega arith in collected_bit H line n (n - i) (omega arith) ∙ ap (λ k. line (2 * (k * H))) e;
+    }
 
 -- no bit is lost at the top
 pub push_collected : (H : ℕ) (line : ℕ → Bool) (r : ℕ) (x : Bool) → r ≤ 40 → x ≡ line (2 * (suc r * H)) → pushed (collected H line r) x ≡ collected H line (suc r)
@@ -82,14 +82,14 @@ pub data Under (f : Format) (H : ℕ) (line : ℕ → Bool) (τ : ℕ) : Phase �
 
 -- tick s
 under_first : (f : Format) (H : ℕ) (line : ℕ → Bool) → 1 ≤ H → Under f H line 0 (phase_ticked (line 0) (Clocking (started H f)))
-under_first f H line h =
-    subst (Under f H line 0) (sym (falls_first f H 0 false (line 0))) (toggling false 0 (H - 1) (omega arith) (omega arith) (omega arith))
+under_first f H line h = rw falls_first (toggling false 0 (H - 1) (omega arith) (omega arith) (omega arith))
 
 -- the tick after, while the clock toggles
 toggling_tick : (f : Format) (H : ℕ) (line : ℕ → Bool) (τ : ℕ) (b : Bool) (r w : ℕ) (x : Bool) → x ≡ line (suc τ) → risen b r ≤ frame_bits f → w < H → τ + w + 1 ≡ (halves b r + 1) * H →
     Under f H line (suc τ) (phase_ticked x (under f H line b (risen b r) w (collected H line r)))
 toggling_tick f H line τ b r (suc w) x v p q e =
-    subst (Under f H line (suc τ)) (sym (waits f H b (risen b r) (suc w) _ _ x (omega arith))) (toggling b r (suc w - 1) p (omega arith) (omega arith))
+    let l : 0 < suc w = omega arith in
+    rw waits (toggling b r (suc w - 1) p (omega arith) (omega arith))
 toggling_tick f H line τ false r zero x v p q e = go (cases_eq r (frame_bits f))
   where
     go : (r ≡ frame_bits f) ⊎ (r ≡ frame_bits f → ⊥) → Under f H line (suc τ) (phase_ticked x (under f H line false r 0 (collected H line r)))
@@ -97,23 +97,21 @@ toggling_tick f H line τ false r zero x v p q e = go (cases_eq r (frame_bits f)
         subst (λ n. Under f H line (suc τ) (phase_ticked x (under f H line false n 0 (collected H line n)))) (sym s)
         (subst (Under f H line (suc τ)) (sym (rises_last f H (frame_bits f) _ _ x (omega arith) (omega arith))) (settling 499 (omega arith) (omega (arith, ap (λ n. n * H) s))))
     go (inr ne) =
-        subst (Under f H line (suc τ)) (sym (rises f H r _ _ x (omega (arith, ne)))) (toggling true r (H - 1) (omega (arith, ne)) (omega arith) (omega arith))
+        let l : r < frame_bits f = omega (arith, ne) in
+        rw rises (toggling true r (H - 1) (omega arith) (omega arith) (omega arith))
 toggling_tick f H line τ true r zero x v p q e =
     let tick : suc τ ≡ 2 * (suc r * H) = omega arith in
-    let taken : pushed (collected H line r) x ≡ collected H line (suc r) = push_collected H line r x (omega (arith, bits_most f)) (v ∙ ap line tick) in
-    subst (Under f H line (suc τ)) (sym (falls f H (suc r) _ _ x (omega arith) p ∙ ap (under f H line false (suc r) (H - 1)) taken))
-    (toggling false (suc r) (H - 1) p (omega arith) (omega arith))
+    let some : 0 < suc r = omega arith in
+    rw (falls, push_collected H line r x (omega (arith, bits_most f)) (v ∙ ap line tick)) (toggling false (suc r) (H - 1) p (omega arith) (omega arith))
 
 -- every tick leads on
 pub under_tick : {f : Format} {H : ℕ} {line : ℕ → Bool} {τ : ℕ} {p : Phase} (x : Bool) → x ≡ line (suc τ) → Under f H line τ p → Under f H line (suc τ) (phase_ticked x p)
 under_tick {f} {H} {line} {τ} x v (toggling b r w p q e) = toggling_tick f H line τ b r w x v p q e
-under_tick {f} {H} {line} {τ} x v (settling (suc w) q e) =
-    subst (Under f H line (suc τ)) (sym (waits f H true (suc (frame_bits f)) (suc w) _ _ x (omega arith))) (settling (suc w - 1) (omega arith) (omega arith))
-under_tick {f} {H} {line} {τ} x v (settling zero q e) = subst (Under f H line (suc τ)) (sym (ends f H _ _ x)) (recovering 2599 (omega arith) (omega arith))
-under_tick {f} {H} {line} {τ} x v (recovering (suc left) q e) =
-    subst (Under f H line (suc τ)) (sym (recovers (suc left) x (omega arith))) (recovering (suc left - 1) (omega arith) (omega arith))
-under_tick {f} {H} {line} {τ} x v (recovering zero q e) = subst (Under f H line (suc τ)) (sym (recovered x)) (waiting (omega arith))
-under_tick {f} {H} {line} {τ} x v (waiting l) = subst (Under f H line (suc τ)) (sym (idles x)) (waiting (omega arith))
+under_tick x v (settling (suc w) q e) = let l : 0 < suc w = omega arith in rw waits (settling (suc w - 1) (omega arith) (omega arith))
+under_tick x v (settling zero q e) = rw ends (recovering 2599 (omega arith) (omega arith))
+under_tick x v (recovering (suc left) q e) = let l : 0 < suc left = omega arith in rw recovers (recovering (suc left - 1) (omega arith) (omega arith))
+under_tick x v (recovering zero q e) = rw recovered (waiting (omega arith))
+under_tick x v (waiting l) = rw idles (waiting (omega arith))
 
 pub under_all : (f : Format) (H : ℕ) (line : ℕ → Bool) → 1 ≤ H → (τ : ℕ) → Under f H line τ (phase_before f H line (suc τ))
 under_all f H line h zero = under_first f H line h
