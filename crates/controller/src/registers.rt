@@ -1,6 +1,6 @@
 //! The SSI registers of a channel, and what requests, ticks and writes do to them.
 ghost use Rattle.std.specs.Prelude.{◌≡◌};
-ghost use Rattle.controller.specs.Phase.{active_in, busy_in, phase_ticked};
+ghost use Rattle.controller.specs.Phase.{phase_ticked};
 ghost use Rattle.controller.specs.Registers.{begun, completed_by, completion, concluded, control_answer, control_written, phase_requested, powered_on, recorded, requested, completed_as, status_word, ticked};
 
 use crate::control::{SsiControl, Start};
@@ -153,15 +153,15 @@ impl Ssi {
     }
 
     /// The SSI Mode Status word, with SENSOR STATUS and BSY of the controller's phase.
-    pub fn status(&self, phase: &Phase) -> u32
-        ensures { result ≡ status_word (active_in phase.now) (busy_in phase.now) self.now }
+    pub fn status(&self, active: bool, busy: bool) -> u32
+        ensures { result ≡ status_word active busy self.now }
     {
-        let w = u32::from(phase.busy());
+        let w = u32::from(busy);
         let w = with_bit(w, 1, self.parity_error);
         let w = with_bit(w, 2, self.parity_status);
         let w = with_bit(w, 3, self.fault);
         let w = with_field(w, 4, 8, field(self.extra_status, 0, 8));
-        let w = with_bit(w, 15, phase.active());
+        let w = with_bit(w, 15, active);
         with_bit(w, 16, self.while_busy)
     }
 }

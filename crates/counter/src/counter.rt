@@ -5,7 +5,7 @@ ghost use Rattle.counter.specs.Counters.{index_cause, indexed, latched, latch_ca
 use crate::flags::Flags;
 use counter_control::modes::IndexMode;
 use counter_count::count::{Count, Outcome};
-use counter_count::levels::Levels;
+use counter_count::levels::{Change, Levels};
 
 /// What a tick gives as causes of interrupts.
 #[derive(Clone, Copy)]
@@ -17,7 +17,7 @@ pub struct Causes {
 }
 
 /// The count, the compare value, the latched count and the status bits.
-#[derive(Clone, Copy)]
+#[derive(Clone, Copy, Default)]
 pub struct Counter {
     pub count: Count,
     pub compare: u32,
@@ -30,12 +30,7 @@ impl Counter {
     pub fn power_on() -> Counter
         ensures { result ≡ power_on_counter }
     {
-        Counter {
-            count: Count::power_on(),
-            compare: 0,
-            latched: 0,
-            flags: Flags::power_on(),
-        }
+        Counter::default()
     }
 
     // status bits and the cause of what became of the count; a step or a load that ends at compare is a match
@@ -44,10 +39,7 @@ impl Counter {
         ensures after { self.new ≡ marked outcome self.old }
     {
         self.flags.note(outcome);
-        if let Outcome::Held = outcome {
-            return false;
-        }
-        if self.count.value != self.compare {
+        if outcome == Outcome::Held || self.count.value != self.compare {
             return false;
         }
         self.flags.matched = true;
@@ -69,35 +61,35 @@ impl Counter {
     }
 
     // the index mode's event, from the levels of I
-    fn index(&mut self, mode: IndexMode, before: bool, after: bool) -> bool
-        ensures answer { result ≡ index_cause mode before after self.old }
-        ensures after { self.new ≡ indexed mode before after self.old }
+    fn index(&mut self, mode: IndexMode, change: Change) -> bool
+        ensures answer { result ≡ index_cause mode change.before.i change.after.i self.old }
+        ensures after { self.new ≡ indexed mode change.before.i change.after.i self.old }
     {
-        let rise = !before && after;
         match mode {
             IndexMode::Ignore => false,
-            IndexMode::Load | IndexMode::Reset => rise,
-            IndexMode::Gate => before && !after,
-            IndexMode::Latch => rise && self.latch(),
+            IndexMode::Load | IndexMode::Reset => change.i_rose(),
+            IndexMode::Gate => change.i_fell(),
+            IndexMode::Latch => change.i_rose() && self.latch(),
         }
     }
 
-    /// A tick of the counter mode, with the filtered levels before and after it.
-    pub fn tick(&mut self, before: Levels, after: Levels) -> Causes
-        ensures answer { result ≡ tick_causes before after self.old }
-        ensures after { self.new ≡ ticked before after self.old }
+    /// A tick of the counter mode; the levels are as filtered.
+    #[tactic(auto, unfolding(crate::specs::Counters::ticked, crate::specs::Counters::tick_causes))]
+    pub fn tick(&mut self, change: Change) -> Causes
+        ensures answer { result ≡ tick_causes change.before change.after self.old }
+        ensures after { self.new ≡ ticked change.before change.after self.old }
     {
         let settings = self.count.control;
-        let before = before.seen_by(&settings);
-        let after = after.seen_by(&settings);
-        let outcome = self.count.tick(before, after);
+        let seen = change.seen_by(&settings);
+        let outcome = self.count.tick(seen);
         let matched = self.mark(outcome);
-        self.flags.point(settings.input, after.b);
-        let control = self.index(settings.index, before.i, after.i);
+        self.flags.point(settings.input, seen.after.b);
+        let control = self.index(settings.index, seen);
         Causes { matched, control }
     }
 
     /// A tick in which no level changes; says whether the count came to the compare value. The index mode has no event then.
+    // `tick` gives the same; this short way stays beside it for speed, since almost every tick is such a one.
     pub fn rest(&mut self, levels: Levels) -> bool
         ensures answer { rest_causes result ≡ tick_causes levels levels self.old }
         ensures after { self.new ≡ ticked levels levels self.old }

@@ -1,14 +1,14 @@
 //! The status bits beside SGL, and the status word.
 ghost use Rattle.std.specs.Prelude.{◌≡◌, ◌<◌, not, ◌&&◌};
 ghost use Rattle.bits.specs.Words.{word_flag};
-ghost use Rattle.counter.specs.Status.{cleared_by, flags_noted, flags_pointed, power_on_flags, released, status_word};
+ghost use Rattle.counter.specs.Status.{cleared_by, flags_noted, flags_pointed, released, status_word};
 
 use bits::{flag, with_bit};
 use counter_control::modes::InputMode;
 use counter_count::count::Outcome;
 
 /// BOR, CRY, MAT, SGN, DIR, DRL and OVFL.
-#[derive(Clone, Copy)]
+#[derive(Clone, Copy, Default)]
 pub struct Flags {
     pub borrow: bool,
     pub carry: bool,
@@ -19,29 +19,7 @@ pub struct Flags {
     pub overflow: bool,
 }
 
-// a bit that a written 1 clears
-fn kept(bit: bool, word: u32, place: u32) -> bool
-    requires { place < 32 }
-    ensures { result ≡ bit && not (word_flag word place) }
-{
-    bit && !flag(word, place)
-}
-
 impl Flags {
-    pub(crate) fn power_on() -> Flags
-        ensures { result ≡ power_on_flags }
-    {
-        Flags {
-            borrow: false,
-            carry: false,
-            matched: false,
-            sign: false,
-            up: false,
-            locked: false,
-            overflow: false,
-        }
-    }
-
     // the bits follow what became of the count; MAT is not among them
     pub(crate) fn note(&mut self, outcome: Outcome)
         ensures { self.new ≡ flags_noted outcome self.old }
@@ -67,7 +45,7 @@ impl Flags {
     pub(crate) fn point(&mut self, input: InputMode, b: bool)
         ensures { self.new ≡ flags_pointed input b self.old }
     {
-        if let InputMode::Direction = input {
+        if input == InputMode::Direction {
             self.up = b;
         }
     }
@@ -83,11 +61,11 @@ impl Flags {
     pub(crate) fn clear(&mut self, word: u32)
         ensures { self.new ≡ cleared_by word self.old }
     {
-        self.borrow = kept(self.borrow, word, 0);
-        self.carry = kept(self.carry, word, 1);
-        self.matched = kept(self.matched, word, 2);
-        self.locked = kept(self.locked, word, 5);
-        self.overflow = kept(self.overflow, word, 6);
+        self.borrow &= !flag(word, 0);
+        self.carry &= !flag(word, 1);
+        self.matched &= !flag(word, 2);
+        self.locked &= !flag(word, 5);
+        self.overflow &= !flag(word, 6);
     }
 
     // the status word, with SGL

@@ -16,20 +16,19 @@ impl Counter {
     fn configure(&mut self, control: Control)
         ensures { self.new ≡ configured control self.old }
     {
-        match (self.count.control.index, control.index) {
-            (_, IndexMode::Latch) => {}
-            (IndexMode::Latch, _) => self.flags.release(),
-            _ => {}
+        if self.count.control.index == IndexMode::Latch && control.index != IndexMode::Latch {
+            self.flags.release();
         }
         self.count.configure(control);
     }
 
     /// A Counter Mode Control write; a refused one leaves the counter as it was.
+    #[tactic(auto, unfolding(crate::specs::Registers::control_written, crate::specs::Registers::control_answer))]
     pub fn write_control(&mut self, word: u32) -> Result<(), Refusal>
         ensures answer { result ≡ control_answer word }
         ensures after { self.new ≡ control_written word self.old }
     {
-        let control = Control::decode(word)?;
+        let control = Control::try_from(word)?;
         self.configure(control);
         Ok(())
     }
@@ -38,10 +37,11 @@ impl Counter {
     pub fn control_word(&self) -> u32
         ensures { result ≡ word_of_control self.now.count.control }
     {
-        self.count.control.word()
+        u32::from(self.count.control)
     }
 
     /// The Counter Mode Status word.
+    #[tactic(auto, unfolding(crate::specs::Registers::status_shown))]
     pub fn status_word(&self) -> u32
         ensures { result ≡ status_shown self.now }
     {
@@ -49,6 +49,7 @@ impl Counter {
     }
 
     /// A Counter Mode Status write: ones clear.
+    #[tactic(auto, unfolding(crate::specs::Registers::status_cleared))]
     pub fn clear_status(&mut self, word: u32)
         ensures { self.new ≡ status_cleared word self.old }
     {
@@ -56,6 +57,7 @@ impl Counter {
     }
 
     /// A Counter Mode Preload write.
+    #[tactic(auto, unfolding(crate::specs::Registers::preload_written))]
     pub fn write_preload(&mut self, word: u32)
         ensures { self.new ≡ preload_written word self.old }
     {
@@ -63,6 +65,7 @@ impl Counter {
     }
 
     /// A Counter Mode Compare write: no match comes of it.
+    #[tactic(auto, unfolding(crate::specs::Registers::compare_written))]
     pub fn write_compare(&mut self, word: u32)
         ensures { self.new ≡ compare_written word self.old }
     {
@@ -70,6 +73,7 @@ impl Counter {
     }
 
     /// A Counter Mode Command write in Counter Mode; says whether a load ended at compare.
+    #[tactic(auto, unfolding(crate::specs::Registers::commanded, crate::specs::Registers::command_matches))]
     pub fn command(&mut self, word: u32) -> bool
         ensures answer { result ≡ command_matches word self.old }
         ensures after { self.new ≡ commanded word self.old }
@@ -82,6 +86,7 @@ impl Counter {
     }
 
     /// LCNT of the shared command register in Counter Mode; says whether the load ended at compare.
+    #[tactic(auto, unfolding(crate::specs::Registers::preload_loaded, crate::specs::Registers::preload_matches))]
     pub fn load_preload(&mut self) -> bool
         ensures answer { result ≡ preload_matches self.old }
         ensures after { self.new ≡ preload_loaded self.old }
@@ -91,6 +96,7 @@ impl Counter {
     }
 
     /// The channel enters Counter Mode.
+    #[tactic(auto, unfolding(crate::specs::Registers::entered))]
     pub fn enter(&mut self)
         ensures { self.new ≡ entered self.old }
     {
@@ -98,6 +104,7 @@ impl Counter {
     }
 
     /// The channel leaves Counter Mode.
+    #[tactic(auto, unfolding(crate::specs::Registers::left))]
     pub fn leave(&mut self)
         ensures { self.new ≡ left self.old }
     {
@@ -105,16 +112,19 @@ impl Counter {
     }
 
     /// What the Data Register shows in Counter Mode.
+    #[tactic(auto, unfolding(crate::specs::Registers::data_word))]
     pub fn data(&self) -> u32
         ensures { result ≡ data_word self.now }
     {
-        match self.count.control.index {
-            IndexMode::Latch => self.latched,
-            _ => self.count.value,
+        if self.count.control.index == IndexMode::Latch {
+            self.latched
+        } else {
+            self.count.value
         }
     }
 
     /// A Data Register read in Counter Mode.
+    #[tactic(auto, unfolding(crate::specs::Registers::data_read))]
     pub fn read_data(&mut self) -> u32
         ensures answer { result ≡ data_word self.old }
         ensures after { self.new ≡ data_read self.old }

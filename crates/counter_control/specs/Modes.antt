@@ -1,5 +1,7 @@
 -- The numbers of the modes in a Counter Mode Control word.
-use Rattle.std.specs.Prelude.{ℕ, cond, Some, None, Option, ◌==◌}
+use Rattle.std.specs.Prelude.{◌≡◌, ℕ, cond, Some, None, Ok, Err, Option, Result, ◌==◌, refl}
+use Rattle.refusal.specs.declared.Refusal.{Refusal}
+use Rattle.refusal.specs.declared.Refusal.TheVariants.{Setting}
 use Rattle.counter_control.specs.declared.modes.InputMode.{InputMode}
 use Rattle.counter_control.specs.declared.modes.InputMode.TheVariants.{Disabled, TimerUp, TimerDown, Direction, UpDown, Quadrature1, Quadrature2, Quadrature4}
 use Rattle.counter_control.specs.declared.modes.BaseClock.{BaseClock}
@@ -31,6 +33,16 @@ input_at n =
     cond (n == 5) Quadrature1 (
     cond (n == 6) Quadrature2 Quadrature4))))))
 
+pub input_reads_back : (s : InputMode) → input_at (input_code s) ≡ s
+input_reads_back Disabled = refl
+input_reads_back TimerUp = refl
+input_reads_back TimerDown = refl
+input_reads_back Direction = refl
+input_reads_back UpDown = refl
+input_reads_back Quadrature1 = refl
+input_reads_back Quadrature2 = refl
+input_reads_back Quadrature4 = refl
+
 -- CLKDIV
 abbrev pub clock_code : BaseClock → ℕ
 clock_code Mhz1 = 0
@@ -52,6 +64,16 @@ clock_at n =
     cond (n == 4) Mhz10 (
     cond (n == 5) Mhz20 (
     cond (n == 6) Mhz50 Mhz100))))))
+
+pub clock_reads_back : (s : BaseClock) → clock_at (clock_code s) ≡ s
+clock_reads_back Mhz1 = refl
+clock_reads_back Mhz2 = refl
+clock_reads_back Mhz4 = refl
+clock_reads_back Mhz5 = refl
+clock_reads_back Mhz10 = refl
+clock_reads_back Mhz20 = refl
+clock_reads_back Mhz50 = refl
+clock_reads_back Mhz100 = refl
 
 -- the ticks of 10 ns in a period of a clock
 abbrev pub ticks_of : BaseClock → ℕ
@@ -78,6 +100,12 @@ special_at n =
     cond (n == 1) DivideByN (
     cond (n == 2) SingleCycle CyclingAlternate))
 
+pub special_reads_back : (s : SpecialMode) → special_at (special_code s) ≡ s
+special_reads_back Cycling = refl
+special_reads_back DivideByN = refl
+special_reads_back SingleCycle = refl
+special_reads_back CyclingAlternate = refl
+
 -- ICM
 abbrev pub index_code : IndexMode → ℕ
 index_code Ignore = 0
@@ -94,3 +122,12 @@ index_at n =
     cond (n == 2) (Some Latch) (
     cond (n == 3) (Some Gate) (
     cond (n == 4) (Some Reset) None))))
+
+-- what the card lacks is refused
+abbrev pub index_or_refused : Option IndexMode → Result IndexMode Refusal
+index_or_refused (Some m) = Ok m
+index_or_refused None = Err Setting
+
+-- the index mode of a number, refused where the card has none
+abbrev pub index_answer : ℕ → Result IndexMode Refusal
+index_answer n = index_or_refused (index_at n)

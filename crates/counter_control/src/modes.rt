@@ -1,59 +1,73 @@
 //! The fields of a Counter Mode Control word: each by its number, and back to it.
-ghost use Rattle.std.specs.Prelude.{◌≡◌, ◌<◌, ◌≤◌};
-ghost use Rattle.counter_control.specs.Modes.{clock_at, clock_code, index_at, index_code, input_at, input_code, special_at, special_code, ticks_of};
+ghost use Rattle.std.specs.Prelude.{◌≡◌, ◌≤◌};
+ghost use Rattle.counter_control.specs.Modes.{clock_at, clock_code, clock_reads_back, index_answer, input_at, input_code, input_reads_back, special_at, special_code, special_reads_back, ticks_of};
+
+use bits::Setting;
+use refusal::Refusal;
 
 /// How the lines, or the internal clock, make steps.
-#[derive(Clone, Copy)]
+#[derive(Clone, Copy, Default, PartialEq, Eq)]
 pub enum InputMode {
-    Disabled,
-    TimerUp,
-    TimerDown,
-    Direction,
-    UpDown,
-    Quadrature1,
-    Quadrature2,
-    Quadrature4,
+    #[default]
+    Disabled = 0,
+    TimerUp = 1,
+    TimerDown = 2,
+    Direction = 3,
+    UpDown = 4,
+    Quadrature1 = 5,
+    Quadrature2 = 6,
+    Quadrature4 = 7,
 }
 
 /// The internal clock of the timer modes.
-#[derive(Clone, Copy)]
+#[derive(Clone, Copy, Default)]
 pub enum BaseClock {
-    Mhz1,
-    Mhz2,
-    Mhz4,
-    Mhz5,
-    Mhz10,
-    Mhz20,
-    Mhz50,
-    Mhz100,
+    #[default]
+    Mhz1 = 0,
+    Mhz2 = 1,
+    Mhz4 = 2,
+    Mhz5 = 3,
+    Mhz10 = 4,
+    Mhz20 = 5,
+    Mhz50 = 6,
+    Mhz100 = 7,
 }
 
 /// What becomes of a step that wraps.
-#[derive(Clone, Copy)]
+#[derive(Clone, Copy, Default, PartialEq, Eq)]
 pub enum SpecialMode {
-    Cycling,
-    DivideByN,
-    SingleCycle,
+    #[default]
+    Cycling = 0,
+    DivideByN = 1,
+    SingleCycle = 2,
     /// The second number of the cycling counter.
-    CyclingAlternate,
+    CyclingAlternate = 3,
 }
 
 /// What an event on I does.
-#[derive(Clone, Copy)]
+#[derive(Clone, Copy, Default, PartialEq, Eq)]
 pub enum IndexMode {
-    Ignore,
-    Load,
-    Latch,
-    Gate,
-    Reset,
+    #[default]
+    Ignore = 0,
+    Load = 1,
+    Latch = 2,
+    Gate = 3,
+    Reset = 4,
 }
 
-impl InputMode {
-    /// The input mode that a field of three bits sets.
-    pub(crate) fn from_field(field: u32) -> InputMode
-        ensures { result ≡ input_at field }
-    {
-        match field {
+impl Setting for InputMode {
+    const WIDTH: u32 = 3;
+
+    ghost WIDTH = { 3 };
+
+    ghost named = { input_at };
+
+    ghost number_of = { input_code };
+
+    ghost reads_back = { input_reads_back };
+
+    fn from_number(number: u32) -> InputMode {
+        match number {
             0 => InputMode::Disabled,
             1 => InputMode::TimerUp,
             2 => InputMode::TimerDown,
@@ -65,30 +79,24 @@ impl InputMode {
         }
     }
 
-    /// The field that sets this mode.
-    pub(crate) fn field(self) -> u32
-        ensures answer { result ≡ input_code self }
-        ensures below { result < 8 }
-    {
-        match self {
-            InputMode::Disabled => 0,
-            InputMode::TimerUp => 1,
-            InputMode::TimerDown => 2,
-            InputMode::Direction => 3,
-            InputMode::UpDown => 4,
-            InputMode::Quadrature1 => 5,
-            InputMode::Quadrature2 => 6,
-            InputMode::Quadrature4 => 7,
-        }
+    fn number(self) -> u32 {
+        self as u32
     }
 }
 
-impl BaseClock {
-    /// The clock that a field of three bits sets.
-    pub(crate) fn from_field(field: u32) -> BaseClock
-        ensures { result ≡ clock_at field }
-    {
-        match field {
+impl Setting for BaseClock {
+    const WIDTH: u32 = 3;
+
+    ghost WIDTH = { 3 };
+
+    ghost named = { clock_at };
+
+    ghost number_of = { clock_code };
+
+    ghost reads_back = { clock_reads_back };
+
+    fn from_number(number: u32) -> BaseClock {
+        match number {
             0 => BaseClock::Mhz1,
             1 => BaseClock::Mhz2,
             2 => BaseClock::Mhz4,
@@ -100,23 +108,12 @@ impl BaseClock {
         }
     }
 
-    /// The field that sets this clock.
-    pub(crate) fn field(self) -> u32
-        ensures answer { result ≡ clock_code self }
-        ensures below { result < 8 }
-    {
-        match self {
-            BaseClock::Mhz1 => 0,
-            BaseClock::Mhz2 => 1,
-            BaseClock::Mhz4 => 2,
-            BaseClock::Mhz5 => 3,
-            BaseClock::Mhz10 => 4,
-            BaseClock::Mhz20 => 5,
-            BaseClock::Mhz50 => 6,
-            BaseClock::Mhz100 => 7,
-        }
+    fn number(self) -> u32 {
+        self as u32
     }
+}
 
+impl BaseClock {
     /// The ticks of 10 ns in a period of this clock.
     pub fn ticks(self) -> u32
         ensures answer { result ≡ ticks_of self }
@@ -136,12 +133,19 @@ impl BaseClock {
     }
 }
 
-impl SpecialMode {
-    /// The special mode that a field of two bits sets.
-    pub(crate) fn from_field(field: u32) -> SpecialMode
-        ensures { result ≡ special_at field }
-    {
-        match field {
+impl Setting for SpecialMode {
+    const WIDTH: u32 = 2;
+
+    ghost WIDTH = { 2 };
+
+    ghost named = { special_at };
+
+    ghost number_of = { special_code };
+
+    ghost reads_back = { special_reads_back };
+
+    fn from_number(number: u32) -> SpecialMode {
+        match number {
             0 => SpecialMode::Cycling,
             1 => SpecialMode::DivideByN,
             2 => SpecialMode::SingleCycle,
@@ -149,46 +153,25 @@ impl SpecialMode {
         }
     }
 
-    /// The field that sets this mode.
-    pub(crate) fn field(self) -> u32
-        ensures answer { result ≡ special_code self }
-        ensures below { result < 4 }
-    {
-        match self {
-            SpecialMode::Cycling => 0,
-            SpecialMode::DivideByN => 1,
-            SpecialMode::SingleCycle => 2,
-            SpecialMode::CyclingAlternate => 3,
-        }
+    fn number(self) -> u32 {
+        self as u32
     }
 }
 
-impl IndexMode {
-    /// The index mode that a field of three bits sets, if the card has it.
-    pub(crate) fn from_field(field: u32) -> Option<IndexMode>
-        ensures { result ≡ index_at field }
-    {
-        match field {
-            0 => Some(IndexMode::Ignore),
-            1 => Some(IndexMode::Load),
-            2 => Some(IndexMode::Latch),
-            3 => Some(IndexMode::Gate),
-            4 => Some(IndexMode::Reset),
-            _ => None,
-        }
-    }
+/// The card lacks an index mode for some numbers, so this field is no `Setting`.
+impl TryFrom<u32> for IndexMode {
+    type Error = Refusal;
 
-    /// The field that sets this mode.
-    pub(crate) fn field(self) -> u32
-        ensures answer { result ≡ index_code self }
-        ensures below { result < 8 }
-    {
-        match self {
-            IndexMode::Ignore => 0,
-            IndexMode::Load => 1,
-            IndexMode::Latch => 2,
-            IndexMode::Gate => 3,
-            IndexMode::Reset => 4,
+    ghost try_from_gives = { λ number r. r ≡ index_answer number };
+
+    fn try_from(number: u32) -> Result<IndexMode, Refusal> {
+        match number {
+            0 => Ok(IndexMode::Ignore),
+            1 => Ok(IndexMode::Load),
+            2 => Ok(IndexMode::Latch),
+            3 => Ok(IndexMode::Gate),
+            4 => Ok(IndexMode::Reset),
+            _ => Err(Refusal::Setting),
         }
     }
 }

@@ -6,6 +6,7 @@ use Rattle.counter_control.specs.declared.modes.IndexMode.{IndexMode}
 use Rattle.counter_control.specs.declared.modes.IndexMode.TheVariants.{Ignore, Load, Latch, Gate, Reset}
 use Rattle.counter_control.specs.declared.control.Control.{Control}
 use Rattle.counter_count.specs.declared.levels.Levels.{Levels}
+use Rattle.counter_count.specs.declared.levels.Change.{Change}
 use Rattle.counter_count.specs.declared.step.Step.{Step}
 use Rattle.counter_count.specs.declared.step.Step.TheVariants.{Hold, Up, Down}
 
@@ -20,6 +21,10 @@ rises x y = not x && y
 -- the levels through the polarity bits
 abbrev pub seen_through : Control → Levels → Levels
 seen_through k v = record { a = differ v.a k.invert_a; b = differ v.b k.invert_b; i = differ v.i k.invert_i }
+
+-- the levels before a tick and after it, through the polarity bits
+abbrev pub change_through : Control → Change → Change
+change_through k d = record { before = seen_through k d.before; after = seen_through k d.after }
 
 -- A changes and B does not
 abbrev pub a_alone : Levels → Levels → Bool

@@ -3,14 +3,15 @@ ghost use Rattle.std.specs.Prelude.{◌≡◌};
 ghost use Rattle.counter_count.specs.Counts.{commanded, command_outcome, configured, divided, driven, drive_outcome, due_in, load_of_event, loaded, moved_on, move_outcome, next_value, power_on_count, preload_loaded, restarted, runs, stepped, step_outcome, taken, take_outcome, turned, turn_outcome, wraps_at};
 ghost use Rattle.counter_count.specs.Ticks.{advanced, advance_outcome, count_outcome, count_ticked};
 
-use crate::levels::Levels;
+use crate::levels::{Change, Levels};
 use crate::step::Step;
 use bits::flag;
 use counter_control::control::Control;
 use counter_control::modes::{IndexMode, SpecialMode};
 
 /// What became of the count, as far as the status bits follow it.
-#[derive(Clone, Copy)]
+// Status bits tell all six apart, so that no Option or Result names them.
+#[derive(Clone, Copy, PartialEq, Eq)]
 pub enum Outcome {
     /// No step and no load, or a step that was not made.
     Held,
@@ -24,7 +25,7 @@ pub enum Outcome {
 }
 
 /// The count, and what its next value depends on besides the levels.
-#[derive(Clone, Copy)]
+#[derive(Clone, Copy, Default)]
 pub struct Count {
     pub control: Control,
     pub preload: u32,
@@ -40,13 +41,7 @@ impl Count {
     pub fn power_on() -> Count
         ensures { result ≡ power_on_count }
     {
-        Count {
-            control: Control::power_on(),
-            preload: 0,
-            divider: 0,
-            single: false,
-            value: 0,
-        }
+        Count::default()
     }
 
     // the divider's tick: whether the clock's period ends in it
@@ -62,6 +57,8 @@ impl Count {
         self.divider = 0;
         true
     }
+
+    // `up` stays a bool down to `take`: steps get their way from comparisons of levels, and DIR keeps it as a bit.
 
     // whether a step from this value wraps
     fn wraps(&self, up: bool) -> bool
@@ -89,10 +86,7 @@ impl Count {
     fn runs(&self) -> bool
         ensures { result ≡ runs self.now.control.special self.now.single }
     {
-        match self.control.special {
-            SpecialMode::SingleCycle => self.single,
-            _ => true,
-        }
+        self.control.special != SpecialMode::SingleCycle || self.single
     }
 
     // a step that does not wrap
@@ -150,7 +144,7 @@ impl Count {
         ensures { self.new ≡ loaded value self.old }
     {
         self.value = value;
-        if let SpecialMode::SingleCycle = self.control.special {
+        if self.control.special == SpecialMode::SingleCycle {
             self.single = true;
         }
     }
@@ -181,27 +175,29 @@ impl Count {
     }
 
     /// A tick of the counter mode; the levels are those seen through the polarity bits.
-    pub fn tick(&mut self, before: Levels, after: Levels) -> Outcome
-        ensures answer { result ≡ advance_outcome before after self.old }
-        ensures after { self.new ≡ advanced before after self.old }
+    #[tactic(auto, unfolding(crate::specs::Ticks::advanced, crate::specs::Ticks::advance_outcome))]
+    pub fn tick(&mut self, change: Change) -> Outcome
+        ensures answer { result ≡ advance_outcome change.before change.after self.old }
+        ensures after { self.new ≡ advanced change.before change.after self.old }
     {
         let due = self.divide();
-        let step = Step::of(self.control.input, due, before, after).gated(
+        let step = Step::of(self.control.input, due, change).gated(
             self.control.index,
-            after.i,
+            change.after.i,
         );
-        let load = self.event_load(!before.i && after.i);
+        let load = self.event_load(change.i_rose());
         self.drive(load, step)
     }
 
     /// A tick in which no level changes: there is no event on I, and only the clock makes steps. The levels are as filtered.
+    // `tick` gives the same; this short way stays beside it for speed, since almost every tick is such a one.
     pub fn rest(&mut self, levels: Levels) -> Outcome
         ensures answer { result ≡ count_outcome levels levels self.old }
         ensures after { self.new ≡ count_ticked levels levels self.old }
     {
         let due = self.divide();
         let step = Step::at_rest(self.control.input, due);
-        if let Step::Hold = step {
+        if step == Step::Hold {
             return Outcome::Held;
         }
         let seen = levels.seen_by(&self.control);

@@ -2,11 +2,12 @@
 ghost use Rattle.std.specs.Prelude.{◌≡◌};
 ghost use Rattle.counter_count.specs.Steps.{clock_step, step_gated, step_of, step_towards};
 
-use crate::levels::Levels;
+use crate::levels::Change;
 use counter_control::modes::{IndexMode, InputMode};
 
 /// One up, one down, or none.
-#[derive(Clone, Copy)]
+// The register map names these three kinds; an Option of a direction would read Some(Direction::Up) in every arm.
+#[derive(Clone, Copy, PartialEq, Eq)]
 pub enum Step {
     Hold,
     Up,
@@ -20,37 +21,36 @@ fn towards(up: bool) -> Step
 }
 
 impl Step {
-    /// The step of a tick between two pairs of levels; `due` says that the clock's period ends in it.
-    pub(crate) fn of(input: InputMode, due: bool, before: Levels, after: Levels) -> Step
-        ensures { result ≡ step_of input due before after }
+    /// The step of a tick; `due` says that the clock's period ends in it.
+    pub(crate) fn of(input: InputMode, due: bool, change: Change) -> Step
+        ensures { result ≡ step_of input due change.before change.after }
     {
-        let a_moved = before.a != after.a;
-        let b_moved = before.b != after.b;
+        let Change { after, .. } = change;
         match input {
             InputMode::Disabled => Step::Hold,
             InputMode::TimerUp => if due { Step::Up } else { Step::Hold },
             InputMode::TimerDown => if due { Step::Down } else { Step::Hold },
-            InputMode::Direction => if a_moved && after.a {
+            InputMode::Direction => if change.a_rose() {
                 towards(after.b)
             } else {
                 Step::Hold
             },
-            InputMode::UpDown => match (a_moved && after.a, b_moved && after.b) {
+            InputMode::UpDown => match (change.a_rose(), change.b_rose()) {
                 (true, false) => Step::Up,
                 (false, true) => Step::Down,
                 _ => Step::Hold,
             },
-            InputMode::Quadrature1 => if a_moved && !b_moved && !after.b {
+            InputMode::Quadrature1 => if change.a_moved() && !change.b_moved() && !after.b {
                 towards(after.a)
             } else {
                 Step::Hold
             },
-            InputMode::Quadrature2 => if a_moved && !b_moved {
+            InputMode::Quadrature2 => if change.a_moved() && !change.b_moved() {
                 towards(after.a != after.b)
             } else {
                 Step::Hold
             },
-            InputMode::Quadrature4 => match (a_moved, b_moved) {
+            InputMode::Quadrature4 => match (change.a_moved(), change.b_moved()) {
                 (true, false) => towards(after.a != after.b),
                 (false, true) => towards(after.a == after.b),
                 _ => Step::Hold,
@@ -73,9 +73,10 @@ impl Step {
     pub(crate) fn gated(self, index: IndexMode, i: bool) -> Step
         ensures { result ≡ step_gated index i self }
     {
-        match (index, i) {
-            (IndexMode::Gate, false) => Step::Hold,
-            _ => self,
+        if index == IndexMode::Gate && !i {
+            Step::Hold
+        } else {
+            self
         }
     }
 }

@@ -30,10 +30,10 @@ fn levels_at(lines: u32, k: u32) -> Levels
 pub fn tick_all(channels: &mut [Channel; 8], lines: u32, inputs: u32, expired: bool)
     ensures { channels.new ≡ table_ticked lines inputs expired channels.old }
 {
-    for k in 0..CHANNELS {
+    for (k, channel) in channels.iter_mut().enumerate() {
         let seen = levels_at(lines, k as u32);
         let input = flag(inputs, k as u32);
-        channels[k].tick(seen, input, expired);
+        channel.tick(seen, input, expired);
     }
 }
 
@@ -41,8 +41,8 @@ pub fn tick_all(channels: &mut [Channel; 8], lines: u32, inputs: u32, expired: b
 pub fn act_on_all(channels: &mut [Channel; 8], act: Act)
     ensures { channels.new ≡ acted act channels.old }
 {
-    for k in 0..CHANNELS {
-        channels[k].perform(act, k as u32);
+    for (k, channel) in channels.iter_mut().enumerate() {
+        channel.perform(act, k as u32);
     }
 }
 
@@ -53,8 +53,8 @@ pub fn gather(channels: &[Channel; 8], share: Share) -> u32
 {
     let width = share.width();
     let mut word = 0;
-    for k in 0..CHANNELS {
-        word = with_field(word, width * k as u32, width, channels[k].share(share));
+    for (k, channel) in channels.iter().enumerate() {
+        word = with_field(word, width * k as u32, width, channel.share(share));
     }
     word
 }

@@ -32,7 +32,7 @@ impl Channel {
     fn become_counter(&mut self)
         ensures { self.new ≡ became_counter self.old }
     {
-        if let Mode::Counter = self.mode {
+        if matches!(self.mode, Mode::Counter) {
             return;
         }
         self.depart();
@@ -43,7 +43,7 @@ impl Channel {
     fn become_ssi(&mut self)
         ensures { self.new ≡ became_ssi self.old }
     {
-        if let Mode::Ssi(_) = self.mode {
+        if matches!(self.mode, Mode::Ssi(_)) {
             return;
         }
         self.depart();

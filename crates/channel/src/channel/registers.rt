@@ -12,10 +12,7 @@ impl Channel {
     fn in_counter_mode(&self) -> bool
         ensures { result ≡ is_counter_mode self.now }
     {
-        match self.mode {
-            Mode::Counter => true,
-            _ => false,
-        }
+        matches!(self.mode, Mode::Counter)
     }
 
     /// LCNT and RCNT; a load that ends at the compare value is a match.
@@ -37,13 +34,11 @@ impl Channel {
     fn takes_requests(&self) -> bool
         ensures { result ≡ is_taking_requests self.now }
     {
-        match self.ssi.control.start {
-            Start::Request => true,
-            Start::Timer => false,
-        }
+        self.ssi.control.start == Start::Request
     }
 
     /// A write to the register at an offset in the channel's span; a refusal leaves the channel.
+    #[tactic(auto, unfolding(crate::specs::Registers::register_written))]
     pub fn write(&mut self, offset: u32, value: u32) -> Result<(), Refusal>
         ensures answer { result ≡ register_answer offset value }
         ensures after { self.new ≡ register_written offset value self.old }
@@ -84,12 +79,13 @@ impl Channel {
     }
 
     /// A read of the register at an offset in the channel's span.
+    #[tactic(auto, unfolding(crate::specs::Registers::register_shown, crate::specs::Registers::register_taken))]
     pub fn read(&mut self, offset: u32) -> u32
         ensures answer { result ≡ register_shown offset self.old }
         ensures after { self.new ≡ register_taken offset self.old }
     {
         match offset {
-            0x00 => self.ssi.control.word(),
+            0x00 => u32::from(self.ssi.control),
             0x04 => self.ssi_status(),
             0x08 => self.counter.control_word(),
             0x0C => self.counter.status_word(),

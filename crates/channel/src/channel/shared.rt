@@ -1,11 +1,34 @@
 //! A channel's share of the shared registers: what a write asks of it, and what it shows there.
-ghost use Rattle.std.specs.Prelude.{◌≡◌, ◌^◌, ◌<◌, ◌≤◌};
-ghost use Rattle.channel.specs.Shares.{acknowledged_edges, acknowledged_interrupts, bit_of, clock_level, controlled, edges_enabled, interrupts_enabled, word_of_lines, loaded_by, word_of_mode, performed, share_of, width_of};
+ghost use Rattle.std.specs.Prelude.{◌≡◌, ◌+◌, ◌^◌, ◌<◌, ◌≤◌};
+ghost use Rattle.bits.specs.Words.{word_flag};
+ghost use Rattle.parts.specs.Interrupts.{acknowledged, enabled_to};
+ghost use Rattle.channel.specs.Shares.{bit_of, clock_level, controlled, word_of_lines, loaded_by, word_of_mode, performed, share_of, width_of};
 
 use super::Channel;
 use crate::act::{Act, Bit, Share};
 use crate::mode::{Mode, OffCode};
 use bits::{field, flag, with_bit};
+use parts::interrupt::Interrupt;
+
+/// Enables or disables two interrupts by the channel's bits in the lowest byte of a word and the next.
+fn enable_pair(low: &mut Interrupt, high: &mut Interrupt, word: u32, k: u32)
+    requires { k < 8 }
+    ensures low { low.new ≡ enabled_to (word_flag word k) low.old }
+    ensures high { high.new ≡ enabled_to (word_flag word (8 + k)) high.old }
+{
+    low.enable(flag(word, k));
+    high.enable(flag(word, 8 + k));
+}
+
+/// Acknowledges two interrupts by the same bits.
+fn acknowledge_pair(low: &mut Interrupt, high: &mut Interrupt, word: u32, k: u32)
+    requires { k < 8 }
+    ensures low { low.new ≡ acknowledged (word_flag word k) low.old }
+    ensures high { high.new ≡ acknowledged (word_flag word (8 + k)) high.old }
+{
+    low.acknowledge(flag(word, k));
+    high.acknowledge(flag(word, 8 + k));
+}
 
 impl Channel {
     fn control(&mut self, mode: u32, snapshot: bool)
@@ -19,43 +42,14 @@ impl Channel {
     fn load(&mut self, one: bool)
         ensures { self.new ≡ loaded_by one self.old }
     {
-        if one {
-            if let Mode::Counter = self.mode {
-                let matched = self.counter.load_preload();
-                self.valid.raise(matched);
-            }
+        if one && matches!(self.mode, Mode::Counter) {
+            let matched = self.counter.load_preload();
+            self.valid.raise(matched);
         }
     }
 
-    fn enable_interrupts(&mut self, valid: bool, fault: bool)
-        ensures { self.new ≡ interrupts_enabled valid fault self.old }
-    {
-        self.valid.enable(valid);
-        self.fault.enable(fault);
-    }
-
-    fn acknowledge_interrupts(&mut self, valid: bool, fault: bool)
-        ensures { self.new ≡ acknowledged_interrupts valid fault self.old }
-    {
-        self.valid.acknowledge(valid);
-        self.fault.acknowledge(fault);
-    }
-
-    fn enable_edges(&mut self, rising: bool, falling: bool)
-        ensures { self.new ≡ edges_enabled rising falling self.old }
-    {
-        self.input.rising.enable(rising);
-        self.input.falling.enable(falling);
-    }
-
-    fn acknowledge_edges(&mut self, rising: bool, falling: bool)
-        ensures { self.new ≡ acknowledged_edges rising falling self.old }
-    {
-        self.input.rising.acknowledge(rising);
-        self.input.falling.acknowledge(falling);
-    }
-
     /// What a write of a shared register asks of the channel at place `k`.
+    #[tactic(auto, unfolding(crate::specs::Shares::performed))]
     pub fn perform(&mut self, act: Act, k: u32)
         requires { k < 8 }
         ensures { self.new ≡ performed act k self.old }
@@ -67,19 +61,18 @@ impl Channel {
             Act::Snapshot => self.trigger(),
             Act::DebounceInput { word, period } => self.input.debounce(flag(word, 24 + k), period),
             Act::Output { word } => self.output = flag(word, k),
-            Act::EnableInterrupts { word } => self.enable_interrupts(
-                flag(word, k),
-                flag(word, 8 + k),
-            ),
-            Act::AcknowledgeInterrupts { word } => self.acknowledge_interrupts(
-                flag(word, k),
-                flag(word, 8 + k),
-            ),
-            Act::EnableEdges { word } => self.enable_edges(flag(word, k), flag(word, 8 + k)),
-            Act::AcknowledgeEdges { word } => self.acknowledge_edges(
-                flag(word, k),
-                flag(word, 8 + k),
-            ),
+            Act::EnableInterrupts { word } => {
+                enable_pair(&mut self.valid, &mut self.fault, word, k)
+            }
+            Act::AcknowledgeInterrupts { word } => {
+                acknowledge_pair(&mut self.valid, &mut self.fault, word, k)
+            }
+            Act::EnableEdges { word } => {
+                enable_pair(&mut self.input.rising, &mut self.input.falling, word, k)
+            }
+            Act::AcknowledgeEdges { word } => {
+                acknowledge_pair(&mut self.input.rising, &mut self.input.falling, word, k)
+            }
             Act::TestOutput { word } => self.test_output = flag(word, 24 + k),
         }
     }
@@ -116,6 +109,7 @@ impl Channel {
     }
 
     /// A bit of the channel.
+    #[tactic(auto, unfolding(crate::specs::Shares::bit_of))]
     pub fn bit(&self, bit: Bit) -> bool
         ensures { result ≡ bit_of bit self.now }
     {
@@ -140,6 +134,7 @@ impl Channel {
     }
 
     /// The channel's share of a shared word.
+    #[tactic(auto, unfolding(crate::specs::Shares::share_of))]
     pub fn share(&self, share: Share) -> u32
         ensures answer { result ≡ share_of share self.now }
         ensures below { result < 2 ^ width_of share }

@@ -9,7 +9,7 @@ use controller::control::Start;
 use controller::phase::Phase;
 use controller::registers::{Completed, Ssi};
 use counter::counter::Counter;
-use counter_count::levels::Levels;
+use counter_count::levels::{Change, Levels};
 use filter::debounce::Debounce;
 use parts::input::Input;
 use parts::interrupt::Interrupt;
@@ -65,9 +65,8 @@ impl Channel {
     fn request_by_timer(&mut self, expired: bool)
         ensures { self.new ≡ timer_requested expired self.old }
     {
-        match (expired, self.ssi.control.start) {
-            (true, Start::Timer) => self.request(),
-            _ => {}
+        if expired && self.ssi.control.start == Start::Timer {
+            self.request();
         }
     }
 
@@ -75,16 +74,13 @@ impl Channel {
     fn is_waiting(&self) -> bool
         ensures { result ≡ waits self.now }
     {
-        match self.mode {
-            Mode::Ssi(Phase::Waiting) => true,
-            _ => false,
-        }
+        matches!(self.mode, Mode::Ssi(Phase::Waiting))
     }
 
-    fn count(&mut self, before: Levels, after: Levels)
-        ensures { self.new ≡ counted before after self.old }
+    fn count(&mut self, change: Change)
+        ensures { self.new ≡ counted change.before change.after self.old }
     {
-        let causes = self.counter.tick(before, after);
+        let causes = self.counter.tick(change);
         self.raise(causes.matched, causes.control);
     }
 
@@ -119,17 +115,18 @@ impl Channel {
     }
 
     /// The working part's tick, with the levels before it and after it.
-    fn work(&mut self, before: Levels, after: Levels, expired: bool)
-        ensures { self.new ≡ worked before after expired self.old }
+    fn work(&mut self, change: Change, expired: bool)
+        ensures { self.new ≡ worked change.before change.after expired self.old }
     {
         match self.mode {
             Mode::Off(_) => {}
-            Mode::Counter => self.count(before, after),
-            Mode::Ssi(_) => self.work_ssi(after.b, expired),
+            Mode::Counter => self.count(change),
+            Mode::Ssi(_) => self.work_ssi(change.after.b, expired),
         }
     }
 
     /// The working part's tick where it left the levels as they were.
+    // `work` gives the same; this short way stays beside it for speed, since almost every tick is such a one.
     fn work_at_rest(&mut self, levels: Levels, expired: bool)
         ensures { self.new ≡ worked levels levels expired self.old }
     {
@@ -148,7 +145,7 @@ impl Channel {
         self.input.tick(input);
         let after = self.lines.levels();
         match former {
-            Some(before) => self.work(before, after, expired),
+            Some(before) => self.work(Change { before, after }, expired),
             None => self.work_at_rest(after, expired),
         }
     }

@@ -1,4 +1,4 @@
-use Rattle.std.proofs.Common.{◌≡◌, Some, None, sym, refl, ◌∙◌}
+use Rattle.std.proofs.Common.{Some, None, refl, ◌∙◌}
 use Rattle.channel.proofs.Stills.{told_ticked}
 use Rattle.channel.proofs.channel.Channel.tick.Goals as goal
 

@@ -5,8 +5,8 @@ use Rattle.counter_count.specs.Steps.{clock_step}
 use Rattle.counter_count.proofs.Rests.{hold_rests, rest_outcome, rest_ticked, rest_step}
 use Rattle.counter_count.proofs.count.Count.rest.Goals as goal
 
-pub returns-in-Hold : goal.returns-in-Hold
-returns-in-Hold c =
+pub returns-then-eq : goal.returns-then-eq
+returns-then-eq c =
     let n = c.args.self.now in
     let v = c.args.levels in
     let hold : clock_step n.control.input (due_in n) ≡ Hold = search rules in

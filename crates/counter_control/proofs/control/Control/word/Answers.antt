@@ -1,7 +1,0 @@
-use Rattle.std.proofs.Common.{rules}
-use Rattle.counter_control.specs.Words.{word_of_control}
-use Rattle.counter_control.proofs.control.Control.word.Goals as goal
-
-pub returns : goal.returns
-unfolding word_of_control
-returns c = search rules
