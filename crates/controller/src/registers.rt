@@ -3,15 +3,14 @@ ghost use Rattle.std.specs.Prelude.{◌≡◌};
 ghost use Rattle.controller.specs.Phase.{phase_ticked};
 ghost use Rattle.controller.specs.Registers.{begun, completed_by, completion, concluded, control_answer, control_written, phase_requested, powered_on, recorded, requested, completed_as, status_word, ticked};
 
-use crate::control::{SsiControl, Start};
+use crate::control::SsiControl;
 use crate::phase::{Due, Phase, Transmission};
 use bits::{field, with_bit, with_field};
-use frame::format::Code;
 use frame::reader::read_frame;
 use refusal::Refusal;
 
 /// The SSI registers of a channel.
-#[derive(Clone, Copy)]
+#[derive(Clone, Copy, Default)]
 pub struct Ssi {
     /// The SSI Mode Control Register.
     pub control: SsiControl,
@@ -61,24 +60,7 @@ impl Ssi {
     pub fn power_on() -> Ssi
         ensures { result ≡ powered_on }
     {
-        Ssi {
-            control: SsiControl {
-                rate: 0,
-                data_bits: 1,
-                extra_bits: 0,
-                check: None,
-                odd: false,
-                code: Code::Binary,
-                start: Start::Request,
-                delay: 0,
-            },
-            while_busy: false,
-            extra_status: 0,
-            fault: false,
-            parity_status: false,
-            parity_error: false,
-            word: 0,
-        }
+        Ssi::default()
     }
 
     /// A write to the SSI Mode Control Register.
@@ -153,6 +135,7 @@ impl Ssi {
     }
 
     /// The SSI Mode Status word, with SENSOR STATUS and BSY of the controller's phase.
+    // the two bits and not the phase, so that the word is promised for each pair of them
     pub fn status(&self, active: bool, busy: bool) -> u32
         ensures { result ≡ status_word active busy self.now }
     {
