@@ -1,6 +1,7 @@
 -- An accepted control word reads as it was written.
-use Rattle.std.proofs.Common.{◌≡◌, ℕ, zero, suc, ◌*◌, ◌/◌, ◌%◌, ◌^◌, ◌<◌, ◌≤◌, Bool, true, false, ltb, refl, ap, arith}
-use Rattle.std.proofs.lemmas.Bool.{eqb-true, eqb-false, ltb-false, or_parts}
+use Rattle.std.proofs.Common.{◌≡◌, ℕ, ◌*◌, ◌/◌, ◌%◌, ◌^◌, ◌<◌, ◌≤◌, false, ltb, arith}
+use Rattle.std.proofs.lemmas.Bool.{eqb-false, ltb-false, or_parts}
+use Rattle.std.proofs.lemmas.Bool.Decides.{nat_tests}
 use Rattle.bits.specs.Words.{word_field, word_flag, bit_at}
 use Rattle.frame.specs.Numbers.{code_at, code_number, span_at}
 use Rattle.controller.specs.Control.{check_field, start_at, start_number}
@@ -8,29 +9,17 @@ use Rattle.controller.specs.Timing.{ControlReadsBack}
 
 -- a field that names a setting is given back
 check_back : (n : ℕ) → n < 4 → check_field (span_at n) ≡ n
-check_back zero h = refl
-check_back (suc zero) h = refl
-check_back (suc (suc zero)) h = refl
-check_back (suc (suc (suc zero))) h = refl
-check_back (suc (suc (suc (suc n)))) h = absurd (omega arith)
+check_back n h = grind (arith, nat_tests)
 
 code_back : (n : ℕ) → n < 2 → code_number (code_at n) ≡ n
-code_back zero h = refl
-code_back (suc zero) h = refl
-code_back (suc (suc n)) h = absurd (omega arith)
+code_back n h = grind (arith, nat_tests)
 
 start_back : (n : ℕ) → n < 2 → start_number (start_at n) ≡ n
-start_back zero h = refl
-start_back (suc zero) h = refl
-start_back (suc (suc n)) h = absurd (omega arith)
+start_back n h = grind (arith, nat_tests)
 
 -- a bit is put back where it was
 bit_back : (w k : ℕ) → bit_at k (word_flag w k) ≡ w / 2 ^ k % 2 * 2 ^ k
-bit_back w k = go (word_flag w k) refl
-  where
-    go : (b : Bool) → word_flag w k ≡ b → bit_at k b ≡ w / 2 ^ k % 2 * 2 ^ k
-    go true e = omega (arith, ap (λ n. n * 2 ^ k) (eqb-true _ _ e))
-    go false e = let z : w / 2 ^ k % 2 ≡ 0 = omega (arith, eqb-false _ _ e) in omega (arith, ap (λ n. n * 2 ^ k) z)
+bit_back w k = grind (arith, nat_tests)
 
 pub control_reads_back_lem : ControlReadsBack
 control_reads_back_lem w h ok =

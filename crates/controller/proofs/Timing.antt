@@ -1,5 +1,5 @@
 -- The laws of the controller's times, each read off where the transmission stands.
-use Rattle.std.proofs.Common.{◌≡◌, ℕ, zero, suc, ◌+◌, ◌*◌, ◌/◌, ◌%◌, ◌<◌, ◌≤◌, Bool, true, false, cond, not, ◌||◌, eqb, ltb, Some, None, Option, sym, refl, ◌∙◌, subst, ap₂, mul_assoc, suc-mul, add-mul, one-mul, arith}
+use Rattle.std.proofs.Common.{◌≡◌, ℕ, zero, suc, ◌+◌, ◌*◌, ◌/◌, ◌%◌, ◌<◌, ◌≤◌, Bool, true, false, cond, not, ◌||◌, eqb, ltb, Some, None, Option, sym, refl, subst, arith}
 use native.Mathlib.Nat.{div-eq_of_lt-le}
 use Rattle.std.proofs.lemmas.Nat.{mul-le}
 use Rattle.std.proofs.lemmas.Bool.{eq-eqb, ne_eqb, lt-ltb, le-ltb}
@@ -14,80 +14,51 @@ use Rattle.controller.specs.declared.phase.Due.{Due}
 use Rattle.controller.specs.declared.phase.Due.TheVariants.{Toggle, Completion, Drop}
 use Rattle.controller.specs.declared.registers.Ssi.{Ssi}
 use Rattle.controller.proofs.Steps.{passes, goes_on, ends_with, recovers_quietly, idles_quietly}
-use Rattle.controller.proofs.Under.{Under, low, high, settling, recovering, waiting, collected, collected_sampled, under_all}
+use Rattle.controller.proofs.Under.{Under, toggling, settling, recovering, waiting, risen, halves, collected, collected_sampled, under_all}
 
--- an odd number of half periods
-odd_times : (n H : ℕ) → (2 * n + 1) * H ≡ 2 * (n * H) + H
-odd_times n H = add-mul (2 * n) 1 H ∙ ap₂ ◌+◌ (mul_assoc 2 n H) (one-mul H)
+-- the half period in which a tick lies, and that toggles come before the last rise
+half_of : (H k w τ : ℕ) → w < H → τ + w + 1 ≡ (k + 1) * H → τ / H ≡ k
+half_of H k w τ q e = div-eq_of_lt-le {k = k} H (omega arith) (omega arith)
 
--- the half period in which a tick with the clock low lies, and one with the clock high
-low_half : (H r w τ : ℕ) → w < H → τ + w + 1 ≡ 2 * (r * H) + H → τ / H ≡ 2 * r
-low_half H r w τ q e =
-    let one : 2 * r * H ≡ 2 * (r * H) = mul_assoc 2 r H in
-    let two = odd_times r H in
-    div-eq_of_lt-le {k = 2 * r} H (omega arith) (omega arith)
+early : (H n : ℕ) (b : Bool) (r w τ : ℕ) → risen b r ≤ n → τ + w + 1 ≡ (halves b r + 1) * H → τ < (2 * n + 1) * H
+early H n true r w τ p e = omega (arith, mul-le (suc r) H n H p (omega arith))
+early H n false r w τ p e = omega (arith, mul-le r H n H p (omega arith))
 
-high_half : (H r w τ : ℕ) → w < H → τ + w + 1 ≡ 2 * (r * H) + 2 * H → τ / H ≡ 2 * r + 1
-high_half H r w τ q e =
-    let one = odd_times r H in
-    let two : (2 * r + 1 + 1) * H ≡ 2 * (r * H) + H + H = add-mul (2 * r + 1) 1 H ∙ ap₂ ◌+◌ one (one-mul H) in
-    div-eq_of_lt-le {k = 2 * r + 1} H (omega arith) (omega arith)
-
--- toggles come before the last rise
-low_early : (H n r w τ : ℕ) → r ≤ n → τ + w + 1 ≡ 2 * (r * H) + H → τ < (2 * n + 1) * H
-low_early H n r w τ p e = omega (arith, odd_times n H, mul-le r H n H p (omega arith))
-
-high_early : (H n r w τ : ℕ) → r < n → τ + w + 1 ≡ 2 * (r * H) + 2 * H → τ < (2 * n + 1) * H
-high_early H n r w τ p e = omega (arith, odd_times n H, suc-mul r H, mul-le (suc r) H n H p (omega arith))
+-- the clock is high in every other half period
+level_of : (H : ℕ) (b : Bool) (r w τ : ℕ) → w < H → τ + w + 1 ≡ (halves b r + 1) * H → eqb (τ / H % 2) 1 ≡ b
+level_of H true r w τ q e = eq-eqb _ 1 (omega (arith, half_of H (2 * r + 1) w τ q e))
+level_of H false r w τ q e = ne_eqb _ 1 (omega (arith, half_of H (2 * r) w τ q e))
 
 pub clock_at_lem : {f : Format} {H : ℕ} {line : ℕ → Bool} {τ : ℕ} {p : Phase} → Under f H line τ p →
     clock_of p ≡ cond (ltb τ (last_rise f H)) (eqb (τ / H % 2) 1) true
-clock_at_lem {f} {H} {line} {τ} (low r w p q e) =
-    let b = lt-ltb τ (last_rise f H) (low_early H (frame_bits f) r w τ p e) in
-    let c : eqb (τ / H % 2) 1 ≡ false = ne_eqb _ 1 (omega (arith, low_half H r w τ q e)) in
-    rw (b, c)
-clock_at_lem {f} {H} {line} {τ} (high r w p q e) =
-    let b = lt-ltb τ (last_rise f H) (high_early H (frame_bits f) r w τ p e) in
-    let c : eqb (τ / H % 2) 1 ≡ true = eq-eqb _ 1 (omega (arith, high_half H r w τ q e)) in
-    rw (b, c)
-clock_at_lem {f} {H} {line} {τ} (settling w q e) =
-    let b = le-ltb τ (last_rise f H) (omega (arith, odd_times (frame_bits f) H)) in
-    rw b
-clock_at_lem {f} {H} {line} {τ} (recovering left q e) =
-    let b = le-ltb τ (last_rise f H) (omega (arith, odd_times (frame_bits f) H)) in
-    rw b
-clock_at_lem {f} {H} {line} {τ} (waiting l) =
-    let b = le-ltb τ (last_rise f H) (omega (arith, odd_times (frame_bits f) H)) in
-    rw b
+clock_at_lem {f} {H} {line} {τ} (toggling b r w p q e) =
+    rw (lt-ltb τ (last_rise f H) (early H (frame_bits f) b r w τ p e), level_of H b r w τ q e)
+clock_at_lem {f} {H} {line} {τ} (settling w q e) = rw (le-ltb τ (last_rise f H) (omega arith))
+clock_at_lem {f} {H} {line} {τ} (recovering left q e) = rw (le-ltb τ (last_rise f H) (omega arith))
+clock_at_lem {f} {H} {line} {τ} (waiting l) = rw (le-ltb τ (last_rise f H) (omega arith))
 
 pub clock_toggles : ClockToggles
 clock_toggles f H line τ h = clock_at_lem (under_all f H line h τ)
 
-pub busy_at : {f : Format} {H : ℕ} {line : ℕ → Bool} {τ : ℕ} {p : Phase} → Under f H line τ p → busy_in p ≡ ltb τ (last_rise f H + 500)
-busy_at {f} {H} {line} {τ} (low r w p q e) = sym (lt-ltb _ _ (omega (arith, low_early H (frame_bits f) r w τ p e)))
-busy_at {f} {H} {line} {τ} (high r w p q e) = sym (lt-ltb _ _ (omega (arith, high_early H (frame_bits f) r w τ p e)))
-busy_at {f} {H} {line} {τ} (settling w q e) = sym (lt-ltb _ _ (omega (arith, odd_times (frame_bits f) H)))
-busy_at {f} {H} {line} {τ} (recovering left q e) = sym (le-ltb _ _ (omega (arith, odd_times (frame_bits f) H)))
-busy_at {f} {H} {line} {τ} (waiting l) = sym (le-ltb _ _ (omega (arith, odd_times (frame_bits f) H)))
-
-pub active_at : {f : Format} {H : ℕ} {line : ℕ → Bool} {τ : ℕ} {p : Phase} → Under f H line τ p → active_in p ≡ ltb τ (last_rise f H + 3100)
-active_at {f} {H} {line} {τ} (low r w p q e) = sym (lt-ltb _ _ (omega (arith, low_early H (frame_bits f) r w τ p e)))
-active_at {f} {H} {line} {τ} (high r w p q e) = sym (lt-ltb _ _ (omega (arith, high_early H (frame_bits f) r w τ p e)))
-active_at {f} {H} {line} {τ} (settling w q e) = sym (lt-ltb _ _ (omega (arith, odd_times (frame_bits f) H)))
-active_at {f} {H} {line} {τ} (recovering left q e) = sym (lt-ltb _ _ (omega (arith, odd_times (frame_bits f) H)))
-active_at {f} {H} {line} {τ} (waiting l) = sym (le-ltb _ _ (omega (arith, odd_times (frame_bits f) H)))
+pub times_at : {f : Format} {H : ℕ} {line : ℕ → Bool} {τ : ℕ} {p : Phase} → Under f H line τ p →
+    (busy_in p ≡ ltb τ (last_rise f H + 500)) × (active_in p ≡ ltb τ (last_rise f H + 3100))
+times_at {f} {H} {line} {τ} (toggling b r w p q e) =
+    let l = early H (frame_bits f) b r w τ p e in
+    (sym (lt-ltb _ _ (omega (arith, l))), sym (lt-ltb _ _ (omega (arith, l))))
+times_at (settling w q e) = (sym (lt-ltb _ _ (omega arith)), sym (lt-ltb _ _ (omega arith)))
+times_at (recovering left q e) = (sym (le-ltb _ _ (omega arith)), sym (lt-ltb _ _ (omega arith)))
+times_at (waiting l) = (sym (le-ltb _ _ (omega arith)), sym (le-ltb _ _ (omega arith)))
 
 pub keeps_times : KeepsTimes
-keeps_times f H line τ h = record { busy = busy_at (under_all f H line h τ); active = active_at (under_all f H line h τ) }
+keeps_times f H line τ h = let t = times_at (under_all f H line h τ) in record { busy = t.0; active = t.1 }
 
 -- just before completion all bits are there
 pub taken_at : {f : Format} {H : ℕ} {line : ℕ → Bool} {τ : ℕ} {p : Phase} → suc τ ≡ last_rise f H + 500 → Under f H line τ p →
     taken_in p ≡ collected H line (frame_bits f)
-taken_at {f} {H} {line} {τ} t (low r w p q e) = absurd (omega (arith, low_early H (frame_bits f) r w τ p e))
-taken_at {f} {H} {line} {τ} t (high r w p q e) = absurd (omega (arith, high_early H (frame_bits f) r w τ p e))
-taken_at {f} {H} {line} {τ} t (settling w q e) = refl
-taken_at {f} {H} {line} {τ} t (recovering left q e) = absurd (omega (arith, odd_times (frame_bits f) H))
-taken_at {f} {H} {line} {τ} t (waiting l) = absurd (omega (arith, odd_times (frame_bits f) H))
+taken_at {f} {H} {line} {τ} t (toggling b r w p q e) = absurd (omega (arith, early H (frame_bits f) b r w τ p e))
+taken_at t (settling w q e) = refl
+taken_at t (recovering left q e) = absurd (omega arith)
+taken_at t (waiting l) = absurd (omega arith)
 
 pub takes_bits : TakesBits
 takes_bits f H line h =
@@ -104,24 +75,17 @@ Gives f H line τ p =
 gives_none : (f : Format) (H : ℕ) (line : ℕ → Bool) (τ : ℕ) (p : Phase) → (τ ≡ last_rise f H + 500 → ⊥) → completion (line τ) p ≡ None → Gives f H line τ p
 gives_none f H line τ p ne e = let b = ne_eqb τ (last_rise f H + 500) ne in rw b e
 
-settled : (f : Format) (H : ℕ) (line : ℕ → Bool) (τ w : ℕ) → w < 500 → τ + w + 1 ≡ 2 * (frame_bits f * H) + H + 500 →
-    Gives f H line (suc τ) (Clocking (record { half = H; format = f; high = true; rises = suc (frame_bits f); wait = w; word = collected H line (frame_bits f); fault = not (line 0) }))
-settled f H line τ (suc w) q e =
-    gives_none f H line (suc τ) _ (λ t. omega (arith, t, odd_times (frame_bits f) H)) (passes f H true (suc (frame_bits f)) (suc w) _ _ (line (suc τ)) (omega arith))
-settled f H line τ zero q e =
-    let b = eq-eqb (suc τ) (last_rise f H + 500) (omega (arith, odd_times (frame_bits f) H)) in
-    rw b (ends_with f H (collected H line (frame_bits f)) (not (line 0)) (line (suc τ)))
-
 pub gives_at : {f : Format} {H : ℕ} {line : ℕ → Bool} {τ : ℕ} {p : Phase} → Under f H line τ p → Gives f H line (suc τ) p
-gives_at {f} {H} {line} {τ} (low r w p q e) =
-    gives_none f H line (suc τ) _ (λ t. omega (arith, t, low_early H (frame_bits f) r w τ p e)) (goes_on f H false r w _ _ (line (suc τ)) p)
-gives_at {f} {H} {line} {τ} (high r w p q e) =
-    gives_none f H line (suc τ) _ (λ t. omega (arith, t, high_early H (frame_bits f) r w τ p e)) (goes_on f H true (suc r) w _ _ (line (suc τ)) p)
-gives_at {f} {H} {line} {τ} (settling w q e) = settled f H line τ w q e
-gives_at {f} {H} {line} {τ} (recovering left q e) =
-    gives_none f H line (suc τ) _ (λ t. omega (arith, t, odd_times (frame_bits f) H)) (recovers_quietly left (line (suc τ)))
-gives_at {f} {H} {line} {τ} (waiting l) =
-    gives_none f H line (suc τ) _ (λ t. omega (arith, t, odd_times (frame_bits f) H)) (idles_quietly (line (suc τ)))
+gives_at {f} {H} {line} {τ} (toggling b r w p q e) =
+    let l = early H (frame_bits f) b r w τ p e in
+    gives_none f H line (suc τ) _ (λ t. omega (arith, t, l)) (goes_on f H b (risen b r) w _ _ (line (suc τ)) p)
+gives_at {f} {H} {line} {τ} (settling (suc w) q e) =
+    gives_none f H line (suc τ) _ (λ t. omega (arith, t)) (passes f H true (suc (frame_bits f)) (suc w) _ _ (line (suc τ)) (omega arith))
+gives_at {f} {H} {line} {τ} (settling zero q e) =
+    let b = eq-eqb (suc τ) (last_rise f H + 500) (omega arith) in
+    rw b (ends_with f H (collected H line (frame_bits f)) (not (line 0)) (line (suc τ)))
+gives_at {f} {H} {line} {τ} (recovering left q e) = gives_none f H line (suc τ) _ (λ t. omega (arith, t)) (recovers_quietly left (line (suc τ)))
+gives_at {f} {H} {line} {τ} (waiting l) = gives_none f H line (suc τ) _ (λ t. omega (arith, t)) (idles_quietly (line (suc τ)))
 
 pub completes : Completes
 completes f H line zero h =

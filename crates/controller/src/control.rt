@@ -1,6 +1,6 @@
 //! The SSI Mode Control word, decoded once when it is written.
 ghost use Rattle.std.specs.Prelude.{◌≡◌, refl};
-ghost use Rattle.controller.specs.Control.{decoded, format_of, start_at, start_number, word_of_control};
+ghost use Rattle.controller.specs.Control.{control_of, decoded, format_of, start_at, start_number, word_of_control};
 ghost use Rattle.controller.specs.declared.control.Start.TheVariants.{Request, Timer};
 
 use bits::{Setting, field, flag, setting_at, with_bit, with_field, with_setting};
@@ -71,16 +71,16 @@ impl TryFrom<u32> for SsiControl {
         if flag(word, 24) || field(word, 25, 2) > 1 {
             return Err(Refusal::Setting);
         }
-        Ok(SsiControl {
-            rate: field(word, 0, 12),
-            data_bits: field(word, 12, 5) + 1,
-            extra_bits: field(word, 17, 3),
-            check: Span::from_number(field(word, 20, 2)),
-            odd: flag(word, 22),
-            code: setting_at(word, 23),
-            start: setting_at(word, 25),
-            delay: field(word, 27, 5),
-        })
+        Ok(SsiControl::in_word(word))
+    }
+}
+
+impl Default for SsiControl {
+    ghost is_default = { λ settings. settings ≡ control_of 0 };
+
+    /// The settings of the word 0.
+    fn default() -> SsiControl {
+        SsiControl::in_word(0)
     }
 }
 
@@ -101,6 +101,22 @@ impl From<SsiControl> for u32 {
 }
 
 impl SsiControl {
+    /// What the fields of a word set.
+    fn in_word(word: u32) -> SsiControl
+        ensures { result ≡ control_of word }
+    {
+        SsiControl {
+            rate: field(word, 0, 12),
+            data_bits: field(word, 12, 5) + 1,
+            extra_bits: field(word, 17, 3),
+            check: Span::from_number(field(word, 20, 2)),
+            odd: flag(word, 22),
+            code: setting_at(word, 23),
+            start: setting_at(word, 25),
+            delay: field(word, 27, 5),
+        }
+    }
+
     /// The format of the frames that the settings ask for.
     pub fn format(&self) -> Format
         ensures { result ≡ format_of self.now }

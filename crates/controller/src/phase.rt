@@ -56,7 +56,7 @@ pub enum Due {
 fn push_bit(word: u64, bit: bool) -> u64
     ensures { result ≡ pushed word bit }
 {
-    word << 1 | u64::from(bit)
+    (word << 1) + u64::from(bit)
 }
 
 impl Transmission {

@@ -3,15 +3,14 @@ ghost use Rattle.std.specs.Prelude.{◌≡◌};
 ghost use Rattle.controller.specs.Phase.{phase_ticked};
 ghost use Rattle.controller.specs.Registers.{begun, completed_by, completion, concluded, control_answer, control_written, phase_requested, powered_on, recorded, requested, completed_as, status_word, ticked};
 
-use crate::control::{SsiControl, Start};
+use crate::control::SsiControl;
 use crate::phase::{Due, Phase, Transmission};
 use bits::{field, with_bit, with_field};
-use frame::format::Code;
 use frame::reader::read_frame;
 use refusal::Refusal;
 
 /// The SSI registers of a channel.
-#[derive(Clone, Copy)]
+#[derive(Clone, Copy, Default)]
 pub struct Ssi {
     /// The SSI Mode Control Register.
     pub control: SsiControl,
@@ -61,27 +60,11 @@ impl Ssi {
     pub fn power_on() -> Ssi
         ensures { result ≡ powered_on }
     {
-        Ssi {
-            control: SsiControl {
-                rate: 0,
-                data_bits: 1,
-                extra_bits: 0,
-                check: None,
-                odd: false,
-                code: Code::Binary,
-                start: Start::Request,
-                delay: 0,
-            },
-            while_busy: false,
-            extra_status: 0,
-            fault: false,
-            parity_status: false,
-            parity_error: false,
-            word: 0,
-        }
+        Ssi::default()
     }
 
     /// A write to the SSI Mode Control Register.
+    #[tactic(auto, unfolding(crate::specs::Registers::control_written))]
     pub fn write_control(&mut self, word: u32) -> Result<(), Refusal>
         ensures answer { result ≡ control_answer word }
         ensures after { self.new ≡ control_written word self.old }
@@ -91,6 +74,7 @@ impl Ssi {
     }
 
     /// A request: starts a transmission unless the sensor is active or the clock rate is 0.
+    #[tactic(auto, unfolding(crate::specs::Registers::phase_requested, crate::specs::Registers::requested))]
     pub fn request(&mut self, phase: &mut Phase)
         ensures phase { phase.new ≡ phase_requested self.old phase.old }
         ensures after { self.new ≡ requested phase.old self.old }
@@ -138,6 +122,7 @@ impl Ssi {
     }
 
     /// A tick with the filtered data line at `level`; answers a transmission that completes.
+    #[tactic(auto, unfolding(crate::specs::Phase::phase_ticked, crate::specs::Registers::completion, crate::specs::Registers::ticked))]
     pub fn tick(&mut self, phase: &mut Phase, level: bool) -> Option<Completed>
         ensures answer { result ≡ completion level phase.old }
         ensures phase { phase.new ≡ phase_ticked level phase.old }
@@ -150,6 +135,7 @@ impl Ssi {
     }
 
     /// The SSI Mode Status word, with SENSOR STATUS and BSY of the controller's phase.
+    // the two bits and not the phase, so that the word is promised for each pair of them
     pub fn status(&self, active: bool, busy: bool) -> u32
         ensures { result ≡ status_word active busy self.now }
     {

@@ -1,5 +1,5 @@
 -- An accepted request leaves the controller before the tick in which the clock first falls, with the settings of the channel.
-use Rattle.std.proofs.Common.{◌≡◌, ℕ, Bool, true, false, cond, eqb, ltb, sym, refl, ap, ◌∙◌, subst}
+use Rattle.std.proofs.Common.{◌≡◌, ℕ, Bool, true, false, cond, eqb, ltb, Some, None, Option, sym, refl, ap, ◌∙◌, subst}
 use Rattle.std.proofs.lemmas.Bool.{cond_both, true≢false}
 use Rattle.counter_count.specs.declared.levels.Levels.{Levels}
 use Rattle.controller.specs.declared.control.SsiControl.{SsiControl}
@@ -8,7 +8,7 @@ use Rattle.controller.specs.declared.control.Start.TheVariants.{Request, Timer}
 use Rattle.controller.specs.declared.phase.Phase.{Phase}
 use Rattle.controller.specs.declared.phase.Phase.TheVariants.{Waiting, Clocking, Recovering}
 use Rattle.controller.specs.declared.phase.Due.{Due}
-use Rattle.controller.specs.declared.phase.Due.TheVariants.{Nothing, Completion}
+use Rattle.controller.specs.declared.phase.Due.TheVariants.{Completion}
 use Rattle.controller.specs.declared.registers.Ssi.{Ssi}
 use Rattle.controller.specs.Control.{format_of}
 use Rattle.controller.specs.Phase.{busy_in, phase_ticked, stepped}
@@ -61,7 +61,7 @@ timer_change true Timer c = request_change c
 
 recovery_quiet : (y : Bool) (n : ℕ) → busy_in (phase_ticked y (Recovering n)) ≡ false
 unfolding phase_ticked
-recovery_quiet y n = cond_both (ltb 0 n) Nothing Completion (λ (d : Due). busy_in (stepped d y (Recovering n)) ≡ false) (λ _. refl) (λ _. refl)
+recovery_quiet y n = cond_both (ltb 0 n) None (Some Completion) (λ (d : Option Due). busy_in (stepped d y (Recovering n)) ≡ false) (λ _. refl) (λ _. refl)
 
 asks_recovering : (expired : Bool) (s : Start) (n : ℕ) (c : Channel)
     → (i : Ssi) × (cond expired (timer_requested_as s (with_mode (Reading (Recovering n)) c)) (with_mode (Reading (Recovering n)) c) ≡ with_ssi i (with_mode (Reading (Recovering n)) c))
