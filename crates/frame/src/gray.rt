@@ -18,6 +18,7 @@ pub fn from_gray(word: u32) -> u32
 {
     let mut number = 0;
     let mut rest = word;
+    // a turn for each bit of the word: nothing is indexed
     for _i in 0..32u32 {
         number ^= rest;
         rest >>= 1;
