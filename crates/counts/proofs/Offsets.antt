@@ -1,6 +1,7 @@
 -- Which registers an offset names, for the card and for channel k's tally.
-use Rattle.std.proofs.Common.{◌≡◌, ℕ, ◌+◌, ◌*◌, ◌%◌, ◌<◌, ◌≤◌, Bool, true, false, not, ◌||◌, eqb, ltb, leb, refl, ⊎_elim, arith}
-use Rattle.std.proofs.lemmas.Bool.{and_cases, eq-eqb, eqb-false, eqb-true, leb-false, ltb-false, ltb-true, ne_eqb, not-true, or_cases}
+use Rattle.std.proofs.Common.{◌≡◌, ℕ, ◌+◌, ◌*◌, ◌%◌, ◌<◌, ◌≤◌, true, false, not, ◌||◌, eqb, ltb, refl, arith}
+use Rattle.std.proofs.lemmas.Bool.{ne_eqb}
+use Rattle.std.proofs.lemmas.Bool.Decides.{nat_tests}
 use Rattle.card.specs.Registers.{channel_at, in_channels, place_at}
 use Rattle.counts.specs.Tallies.{ChannelTally, own_written, register_at, tally_written}
 use Rattle.counts.proofs.Bounds.{Small}
@@ -19,11 +20,7 @@ own_misses k o v t n = rw (miss 8 (omega arith) (omega arith), miss 16 (omega ar
 
 -- an offset in channel k's span, by its place
 same_test : (k o q : ℕ) → 16 ≤ o → channel_at o ≡ k → q < 40 → eqb o (register_at k q) ≡ eqb (place_at o) q
-same_test k o q l e h = go (eqb (place_at o) q) refl
-  where
-    go : (b : Bool) → eqb (place_at o) q ≡ b → eqb o (register_at k q) ≡ b
-    go true s = let r = eqb-true (place_at o) q s in eq-eqb o (register_at k q) (omega arith)
-    go false s = ne_eqb o (register_at k q) (λ r. eqb-false (place_at o) q s (omega arith))
+same_test k o q l e h = grind (arith, nat_tests)
 
 pub own_hits : (k o v : ℕ) (t : ChannelTally) → 16 ≤ o → channel_at o ≡ k → Small t
     → standing (own_written k o v t) ≡ part_written (place_at o) v (standing t)
@@ -40,11 +37,8 @@ misses k o v t a b n = rw (ne_eqb o 0 a, ne_eqb o 4 b) (own_misses k o v t n)
 
 -- an offset in no channel's span
 pub outside_spans : (k o : ℕ) → k < 8 → in_channels o ≡ false → Outside k o
-outside_spans k o h e a d m = ⊎_elim (λ f. absurd (omega (arith, leb-false 16 o f))) (λ f. absurd (omega (arith, ltb-false o 336 f))) (and_cases (leb 16 o) (ltb o 336) e)
+outside_spans k o h e a d m = grind (arith, nat_tests)
 
 -- an offset that the card refuses is no register
 pub refused_outside : (o : ℕ) → (not (eqb (o % 4) 0) || ltb 508 o) ≡ true → (o % 4 ≡ 0 → o ≤ 508 → ⊥)
-refused_outside o e m l = ⊎_elim
-    (λ f. eqb-false (o % 4) 0 (not-true (eqb (o % 4) 0) f) m)
-    (λ f. omega (arith, ltb-true 508 o f))
-    (or_cases (not (eqb (o % 4) 0)) (ltb 508 o) e)
+refused_outside o e m l = grind (arith, nat_tests)

@@ -1,16 +1,14 @@
 -- What a read of a channel's Data Register answers in Counter Mode.
-use Rattle.std.proofs.Common.{◌≡◌, ℕ, ◌%◌, ◌<◌, true, false, eqb, ltb, leb, Ok, refl, ap, ◌∙◌, arith}
-use Rattle.std.proofs.lemmas.Bool.{cond-false, eq-eqb, le-leb, le-ltb, lt-ltb}
+use Rattle.std.proofs.Common.{◌≡◌, ℕ, ◌%◌, ◌<◌, false, Ok, ap, ◌∙◌, arith}
+use Rattle.std.proofs.lemmas.Bool.Decides.{nat_tests}
 use Rattle.counter.specs.Counters.{latches}
 use Rattle.counter.specs.Registers.{data_word}
 use Rattle.channel.specs.declared.mode.Mode.{Mode}
-use Rattle.channel.specs.declared.mode.Mode.TheVariants.{Off, Counter as Counting, Ssi as Reading}
 use Rattle.channel.specs.declared.channel.Channel.{Channel}
 use Rattle.channel.specs.Records.{with_mode}
 use Rattle.channel.specs.Registers.{register_shown}
 use Rattle.card.specs.Calls.{Card, powered_on, read_done, value_of}
 use Rattle.card.specs.Records.{channel_of}
-use Rattle.card.specs.Registers.{channel_at, place_at}
 use Rattle.runs.specs.declared.Answer.TheVariants.{Value}
 use Rattle.runs.specs.Runs.{run}
 use Rattle.counts.specs.Tallies.{counting, register_at}
@@ -21,21 +19,12 @@ use Rattle.counts.proofs.Parts.{Part, setting_of}
 -- a read of channel k's register at the place q
 reads_own : (k q : ℕ) (c : Card) → k < 8 → q < 40 → q % 4 ≡ 0 → value_of (read_done c (register_at k q)) ≡ Ok (register_shown q (channel_of k c))
 unfolding read_done
-reads_own k q c h l m =
-    let aligned : eqb (register_at k q % 4) 0 ≡ true = eq-eqb (register_at k q % 4) 0 (omega arith) in
-    let within : ltb 508 (register_at k q) ≡ false = le-ltb 508 (register_at k q) (omega arith) in
-    let above : leb 16 (register_at k q) ≡ true = le-leb 16 (register_at k q) (omega arith) in
-    let below : ltb (register_at k q) 336 ≡ true = lt-ltb (register_at k q) 336 (omega arith) in
-    let here : channel_at (register_at k q) ≡ k = omega arith in
-    let place : place_at (register_at k q) ≡ q = omega arith in
-    rw (aligned, within, above, below, here, place) refl
+reads_own k q c h l m = grind (arith, nat_tests)
 
 data_shown_lem : (m : Mode) (c : Channel) → setting_of m ≡ counting → latches c.counter.count.control.index ≡ false
     → register_shown 32 (with_mode m c) ≡ c.counter.count.value
 unfolding register_shown data_word
-data_shown_lem (Off z) c e l = let z : ◌≡◌ {A = ℕ} 0 1 = cc in absurd (omega arith)
-data_shown_lem Counting c e l = cond-false (latches c.counter.count.control.index) c.counter.latched c.counter.count.value l
-data_shown_lem (Reading p) c e l = let z : ◌≡◌ {A = ℕ} 0 1 = cc in absurd (omega arith)
+data_shown_lem m c e l = grind arith
 
 pub counts_read_lem : CountsRead
 counts_read_lem k h xs f m l =

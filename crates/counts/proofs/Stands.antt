@@ -1,12 +1,12 @@
 -- A channel's tally stands for the part of its record that the law of counts speaks of.
-use Rattle.std.proofs.Common.{◌≡◌, ℕ, ◌^◌, ◌<◌, Bool, true, false, cond, refl, ap}
+use Rattle.std.proofs.Common.{◌≡◌, ℕ, ◌^◌, ◌<◌, Bool, true, false, cond, ap, arith}
 use Rattle.counter_count.specs.declared.levels.Levels.{Levels}
 use Rattle.counter_count.specs.declared.count.Count.{Count}
 use Rattle.counter_count.specs.Counts.{control_written}
 use Rattle.channel.specs.Lines.{levels_of, lines_ticked}
-use Rattle.tally.specs.Tally.{Tally, stands, tally_command, tally_control, tally_load, tally_tick}
+use Rattle.tally.specs.Tally.{Tally, stands, tally_command, tally_control, tally_tick}
 use Rattle.tally.proofs.Stands.{tally_stands_lem}
-use Rattle.counts.specs.Tallies.{ChannelTally, Setting, off, counting, reading, enters, in_counter_mode, tally_loaded, tally_mode, tally_ticked, with_tally}
+use Rattle.counts.specs.Tallies.{ChannelTally, Setting, in_counter_mode, tally_loaded, tally_mode, tally_ticked, with_tally}
 use Rattle.counts.proofs.Parts.{Part, part_loaded, part_mode, part_ticked, with_count}
 use Rattle.counts.proofs.Registers.{part_commanded}
 
@@ -21,26 +21,24 @@ pushed f false p q = q
 
 -- what only Counter Mode does
 heeded : (s : Setting) (new old : Tally) {n : Count} → stands new ≡ n → stands (in_counter_mode s new old) ≡ in_counter_mode s n (stands old)
-heeded off new old e = refl
-heeded counting new old e = e
-heeded reading new old e = refl
+heeded s new old e = grind arith
 
 -- parts with equal counts
 at_count : (p : Part) {m n : Count} → m ≡ n → with_count m p ≡ with_count n p
 at_count p e = ap (λ (m : Count). with_count m p) e
 
 pub mode_stands : (s : Setting) (t : ChannelTally) → standing (tally_mode s t) ≡ part_mode s (standing t)
-mode_stands s t = ap (λ (m : Count). record { lines = t.lines; mode = s; count = m }) (pushed stands (enters t.mode s) (tally_stands_lem.enter t.counter) refl)
+mode_stands s t = grind arith
 
 pub load_stands : (one : Bool) (t : ChannelTally) → t.counter.preload < 2 ^ 32 → standing (tally_loaded one t) ≡ part_loaded one (standing t)
-load_stands one t h = pushed standing one (at_count (standing t) (heeded t.mode (tally_load t.counter) t.counter (tally_stands_lem.load t.counter h))) refl
+load_stands one t h = grind (arith, tally_stands_lem.load t.counter h)
 
 pub control_stands : (v : ℕ) (t : ChannelTally) → standing (with_tally (tally_control v t.counter) t) ≡ with_count (control_written v (stands t.counter)) (standing t)
-control_stands v t = at_count (standing t) (tally_stands_lem.control v t.counter)
+control_stands v t = grind (arith, tally_stands_lem.control v t.counter)
 
 pub command_stands : (v : ℕ) (t : ChannelTally) → t.counter.preload < 2 ^ 32
     → standing (with_tally (in_counter_mode t.mode (tally_command v t.counter) t.counter) t) ≡ part_commanded v (standing t)
-command_stands v t h = at_count (standing t) (heeded t.mode (tally_command v t.counter) t.counter (tally_stands_lem.command v t.counter h))
+command_stands v t h = grind (arith, tally_stands_lem.command v t.counter h)
 
 pub tick_stands : (x : Levels) (t : ChannelTally) → t.counter.preload < 2 ^ 32 → standing (tally_ticked x t) ≡ part_ticked x (standing t)
 tick_stands x t h =

@@ -5,11 +5,13 @@ ghost use Rattle.counts.specs.Laws.{Counts, CountsRead, Wraps};
 
 /// After every list of calls on a new card, each channel's count is its last load plus the signed steps since,
 /// modulo 2^32, as a tally of the calls alone has them.
+#[tactic(auto, using(crate::proofs::Counted::counts_stand_lem))]
 pub fn counts_stand()
     ensures { Counts }
 {}
 
 /// In Counter Mode, but for Latch on I, that is what a read of the channel's Data Register then answers.
+#[tactic(auto, using(crate::proofs::Shown::counts_read_lem))]
 pub fn counts_read()
     ensures { CountsRead }
 {}
