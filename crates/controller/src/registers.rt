@@ -38,7 +38,7 @@ pub struct Completed {
 }
 
 impl SsiControl {
-    /// A transmission with these settings, just before the tick in which the clock first falls.
+    /// A transmission with these settings, just before the tick in which the clock first falls; the clock rate 0 gives none.
     fn begin(&self) -> Option<Transmission>
         ensures { result ≡ begun self.now }
     {
