@@ -1,5 +1,5 @@
 -- A whole run, line by line.
-use Rattle.std.proofs.Common.{◌≡◌, ℕ, ◌+◌, ◌-◌, ◌<◌, ◌≤◌, List, [], ◌++◌, length, drop, None, Ok, Err, Result, sym, refl, ap, ◌∙◌, append_assoc, arith, drop-drop, eqb}
+use Rattle.std.proofs.Common.{◌≡◌, ℕ, ◌+◌, ◌-◌, ◌<◌, ◌≤◌, List, [], ◌++◌, length, drop, None, Ok, Err, Result, sym, refl, ap, ◌∙◌, append_assoc, arith, drop-drop, eqb, le-ltb}
 use Rattle.std.specs.List.{position_or_len}
 use Rattle.std.proofs.lemmas.List.{append-nil, length-append, length-drop}
 use Rattle.card.specs.Calls.{Card}
@@ -7,7 +7,7 @@ use Rattle.text.specs.Lines.{up_to, past, lines_of}
 use Rattle.text.specs.declared.fault.Fault.{Fault}
 use Rattle.text.proofs.Cuts.{lines_cons, lines_none}
 use Rattle.script.specs.Cursor.{written, left}
-use Rattle.script.specs.Runs.{Done, Ran, RanAll, Outcome, ended, go_on, lines_ran, line_ran, result_of}
+use Rattle.script.specs.Runs.{Done, Ran, RanAll, Outcome, ended, go_on, lines_ran, line_ran, result_of, script_on}
 use Rattle.script.specs.declared.output.Output.{Output}
 use Rattle.script.specs.declared.run.Runner.{Runner}
 
@@ -66,6 +66,10 @@ along_stop ls {whole} {s} {s'} {t} {o} {p} {q} (Err f) e a r = record {
     same = r.output.same ∙ a.same;
   };
 }
+
+-- a script that is not too long
+pub script_short : (script : List ℕ) (k : Card) (room : ℕ) → length script ≤ 65536 → script_on script k room ≡ lines_ran (lines_of script) k room
+script_short script k room h = rw (le-ltb 65536 (length script) h) refl
 
 -- no line is left
 pub along_end : {whole : Outcome} {s s' : Runner} {o p : Output} → Along whole (ended None) s s' o p → RanAll whole (Ok tt) s s' o p
