@@ -14,9 +14,9 @@ fn main(rt: HostRuntime) -> io::Result<()> {
     let limit = MAX_SCRIPT as u64 + 1;
     rt.stdin().take(limit).read_to_end(&mut input)?;
     let mut output = vec![in rt.alloc(); 0u8; MAX_OUTPUT]?;
-    let answer = run_script(&input, &mut output);
-    output.truncate(answer.bytes);
+    let run = run_script(&input, &mut output);
+    output.truncate(run.bytes);
     rt.stdout().write_all(&output)?;
-    let last = refusal_line(rt.alloc(), answer)?;
+    let last = refusal_line(rt.alloc(), run)?;
     rt.print(last)
 }

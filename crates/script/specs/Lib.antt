@@ -1,3 +1,4 @@
 pub mod Output
+pub mod Cursor
 pub mod Runs
 pub mod Refusals

@@ -1,16 +1,20 @@
 -- What a script does on a new card.
-use Rattle.std.specs.Prelude.{◌≡◌, ℕ, zero, suc, ◌-◌, cond, List, [], ◌∷◌, ◌++◌, length, drop, Ok, Err, Result, nat_le, nat_lt}
+use Rattle.std.specs.Prelude.{◌≡◌, ℕ, zero, suc, ◌+◌, ◌-◌, cond, List, [], ◌∷◌, ◌++◌, length, drop, Some, None, Option, Ok, Err, Result, nat_le, nat_lt}
 use Rattle.card.specs.Calls.{Card, Got, powered_on, read_done, write_done, tick_done}
 use Rattle.refusal.specs.declared.Refusal.{Refusal}
 use Rattle.text.specs.Lines.{lines_of}
 use Rattle.text.specs.Commands.{command_of}
 use Rattle.text.specs.Faults.{fault_code}
 use Rattle.text.specs.declared.fault.Fault.{Fault}
-use Rattle.text.specs.declared.fault.Fault.TheVariants.{Access, Full}
+use Rattle.text.specs.declared.fault.Fault.TheVariants.{Access, Length, Full}
 use Rattle.text.specs.declared.command.Command.{Command}
 use Rattle.text.specs.declared.command.Command.TheVariants.{Read, Write, Tick}
-use Rattle.script.specs.Output.{line_of_read, placed}
-use Rattle.script.specs.declared.run.RunAnswer.{RunAnswer}
+use Rattle.script.specs.Output.{line_of_read}
+use Rattle.script.specs.Cursor.{Written}
+use Rattle.script.specs.declared.output.Output.{Output}
+use Rattle.script.specs.declared.run.Run.{Run}
+use Rattle.script.specs.declared.run.Runner.{Runner}
+use Rattle.script.specs.declared.export.RunAnswer.{RunAnswer}
 
 -- a line that was run: the card after it, and what it writes
 pub record Done : Type 0 where
@@ -52,10 +56,10 @@ command_ran (Ok c) k room = fitting room (performed c k)
 unfoldable pub line_ran : List ℕ → Card → ℕ → Result Done Fault
 line_ran l k room = command_ran (command_of l) k room
 
--- how many bytes a line wrote
-abbrev pub length_of : Result Done Fault → Result ℕ Fault
-length_of (Ok d) = Ok (length d.bytes)
-length_of (Err e) = Err e
+-- what a line answers
+abbrev pub answered : Result Done Fault → Result (Unit {0}) Fault
+answered (Ok d) = Ok tt
+answered (Err e) = Err e
 
 -- what a line wrote: nothing where it was not run
 abbrev pub bytes_of : Result Done Fault → List ℕ
@@ -67,43 +71,72 @@ abbrev pub card_of : Card → Result Done Fault → Card
 card_of k (Ok d) = d.card
 card_of k (Err e) = k
 
--- one line's outcome: the answer, the card after it, and its bytes put into the output at an index
-pub record Ran (x : Result Done Fault) (r : Result ℕ Fault) (k k' : Card) (at : ℕ) (out out' : List ℕ) : Type 0 where
-  pub answer : r ≡ length_of x
-  pub card : k' ≡ card_of k x
-  pub output : out' ≡ placed at (bytes_of x) out
+-- one line's outcome: the answer, the card after it, and its bytes written
+pub record Ran (x : Result Done Fault) (r : Result (Unit {0}) Fault) (s s' : Runner) (o o' : Output) : Type 0 where
+  pub answer : r ≡ answered x
+  pub card : s'.card ≡ card_of s.card x
+  pub output : Written (bytes_of x) o o'
+  pub lines : s'.lines ≡ s.lines
 
--- a whole run: the lines run, the bytes written and the code that ended it, or 0
+-- a whole run: the lines run, the bytes written, and what stopped it
 pub record Outcome : Type 0 where
   pub lines : ℕ
   pub bytes : List ℕ
-  pub code : ℕ
+  pub stopped : Option Fault
 
--- no line more, with the code of what stopped it or 0
-abbrev pub ended : ℕ → Outcome
-ended n = record { lines = 0; bytes = []; code = n }
+-- no line more, with what stopped it
+abbrev pub ended : Option Fault → Outcome
+ended f = record { lines = 0; bytes = []; stopped = f }
 
 -- one line in front of a run
 abbrev pub one_more : List ℕ → Outcome → Outcome
-one_more bs o = record { lines = suc o.lines; bytes = bs ++ o.bytes; code = o.code }
+one_more bs o = record { lines = suc o.lines; bytes = bs ++ o.bytes; stopped = o.stopped }
 
 -- after a line that is run the others follow; a line that is refused ends the run
 abbrev pub go_on : (Card → ℕ → Outcome) → ℕ → Result Done Fault → Outcome
 go_on go room (Ok d) = one_more d.bytes (go d.card (room - length d.bytes))
-go_on go room (Err e) = ended (fault_code e)
+go_on go room (Err e) = ended (Some e)
 
 -- the lines in their order, up to the first that is refused
 unfoldable pub lines_ran : List (List ℕ) → Card → ℕ → Outcome
-lines_ran [] k room = ended 0
+lines_ran [] k room = ended None
 lines_ran (l ∷ ls) k room = go_on (λ k' room'. lines_ran ls k' room') room (line_ran l k room)
 
--- a script on a new card; one of more than 65,536 bytes is not begun
-abbrev pub script_ran : List ℕ → ℕ → Outcome
-script_ran script room = cond (nat_lt 65536 (length script)) (ended 5) (lines_ran (lines_of script) powered_on room)
+-- a script on a card; one of more than 65,536 bytes is not begun
+abbrev pub script_on : List ℕ → Card → ℕ → Outcome
+script_on script k room = cond (nat_lt 65536 (length script)) (ended (Some Length)) (lines_ran (lines_of script) k room)
 
--- what a run answers
+-- a script on a new card
+abbrev pub script_ran : List ℕ → ℕ → Outcome
+script_ran script room = script_on script powered_on room
+
+-- how a runner answers what stopped a run
+abbrev pub result_of : Option Fault → Result (Unit {0}) Fault
+result_of None = Ok tt
+result_of (Some f) = Err f
+
+-- a whole run's outcome on a runner: the answer, the lines, and the bytes written
+pub record RanAll (x : Outcome) (r : Result (Unit {0}) Fault) (s s' : Runner) (o o' : Output) : Type 0 where
+  pub answer : r ≡ result_of x.stopped
+  pub lines : s'.lines ≡ s.lines + x.lines
+  pub output : Written x.bytes o o'
+
+-- how a run ended
+abbrev pub run_of : Outcome → Run
+run_of o = record { lines = o.lines; bytes = length o.bytes; stopped = o.stopped }
+
+-- the code of what stopped a run, or 0
+abbrev pub stop_code : Option Fault → ℕ
+stop_code None = 0
+stop_code (Some f) = fault_code f
+
+-- how a run ended, as C reads it
+abbrev pub record_of : Run → RunAnswer
+record_of r = record { lines = r.lines; bytes = r.bytes; code = stop_code r.stopped }
+
+-- what a run answers to C
 abbrev pub answer_of : Outcome → RunAnswer
-answer_of o = record { lines = o.lines; bytes = length o.bytes; code = o.code }
+answer_of o = record_of (run_of o)
 
 -- the output after a run: what was written, then what was there
 abbrev pub output_of : Outcome → List ℕ → List ℕ

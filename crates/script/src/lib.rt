@@ -6,6 +6,6 @@ mod output;
 mod refused;
 mod run;
 
-pub use export::card_run;
+pub use export::{RunAnswer, card_run};
 pub use refused::refusal_line;
-pub use run::{MAX_SCRIPT, RunAnswer, run_script};
+pub use run::{MAX_SCRIPT, Run, run_script};

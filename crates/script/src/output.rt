@@ -1,9 +1,54 @@
-// What a read writes to the output.
-ghost use Rattle.std.specs.Prelude.{◌≡◌, ◌<◌, length};
+// The output of a run, and the line that a read writes to it.
+ghost use Rattle.std.specs.Prelude.{◌≡◌, [], ◌<◌, ◌≤◌, length};
 ghost use Rattle.script.specs.Output.{hex_digit_of, hex_bytes, line_of_read};
 
 /// The bytes of a line `R,offset,value` with its byte 10.
 pub(crate) const READ_LINE: usize = 15;
+
+/// Bytes with a cursor: what is written stands before it, and what follows is as it was.
+#[derive(Drop)]
+pub(crate) struct Output<'a> {
+    bytes: &'a mut [u8],
+    at: usize,
+    ghost within: { at ≤ length bytes.now },
+}
+
+impl<'a> Output<'a> {
+    ghost use Rattle.script.specs.Cursor.{Written, written, left};
+
+    /// An output with nothing written.
+    pub(crate) fn new(bytes: &'a mut [u8]) -> Output<'a>
+        ensures none { written result ≡ [] }
+        ensures left { left result ≡ bytes.old }
+        ensures same { result.bytes.ghost_name ≡ bytes.entry.ghost_name }
+    {
+        Output { bytes, at: 0 }
+    }
+
+    /// How many bytes are written.
+    pub(crate) fn len(&self) -> usize
+        ensures { result ≡ length (written self.now) }
+    {
+        self.at
+    }
+
+    /// How many bytes are left.
+    pub(crate) fn room(&self) -> usize
+        ensures { result ≡ length (left self.now) }
+    {
+        self.bytes.len() - self.at
+    }
+
+    /// Writes a line at the cursor.
+    pub(crate) fn put(&mut self, line: &[u8])
+        requires { length line.now ≤ length (left self.old) }
+        ensures { Written line.now self.old self.new }
+    {
+        let end = self.at + line.len();
+        self.bytes[self.at..end].copy_from_slice(line);
+        self.at = end;
+    }
+}
 
 // One of 0 to 9 and A to F.
 fn hex_digit(d: u32) -> u8

@@ -1,5 +1,5 @@
 -- A script of accesses that the card takes makes just these accesses.
-use Rattle.std.proofs.Common.{◌≡◌, ℕ, suc, ◌-◌, ◌≤◌, List, [], ◌∷◌, ◌++◌, length, Ok, sym, refl, ap, ◌∙◌, arith}
+use Rattle.std.proofs.Common.{◌≡◌, ℕ, suc, ◌-◌, ◌≤◌, List, [], ◌∷◌, ◌++◌, length, None, Ok, sym, refl, ap, ◌∙◌, arith}
 use Rattle.std.specs.List.{AllByRecursion}
 use Rattle.std.proofs.lemmas.List.{length-append}
 use Rattle.card.specs.Calls.{Card, powered_on}
@@ -16,7 +16,7 @@ use Rattle.script_laws.proofs.Texts.{command_back, text_line}
 
 -- so many lines run to the end
 abbrev complete : ℕ → List ℕ → Outcome
-complete n bs = record { lines = n; bytes = bs; code = 0 }
+complete n bs = record { lines = n; bytes = bs; stopped = None }
 
 text_ran : (c : Command) (k : Card) (room : ℕ) → Fits c → line_ran (text_of c) k room ≡ fitting room (performed c k)
 text_ran c k room h = line_as (text_of c) k room (sym (command_back c h))
@@ -59,5 +59,5 @@ texts_lines (c ∷ cs) h = (text_line c h.0, texts_lines cs h.1)
 
 pub accesses : AccessesPerformed
 accesses cs bs room fits p short h =
-    sym (script_short (written (texts_of cs)) room short)
+    script_short (written (texts_of cs)) powered_on room short
     ∙ (ap (λ ls. lines_ran ls powered_on room) (lines_back (texts_of cs) (texts_lines cs fits)) ∙ performed_ran powered_on cs bs room fits p h)

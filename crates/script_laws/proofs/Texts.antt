@@ -1,5 +1,5 @@
 -- A command that is written out is read back.
-use Rattle.std.proofs.Common.{◌≡◌, ℕ, zero, suc, ◌+◌, ◌*◌, ◌/◌, ◌%◌, ◌^◌, ◌<◌, ◌≤◌, true, false, cond, ltb, List, [], ◌∷◌, ◌++◌, length, get_or, drop, Some, Ok, decimal, Option, sym, refl, ap, ◌∙◌, subst, append_assoc, pow-suc, add-one, arith, ltb-false, ltb-true, lt-ltb, eq-eqb, ne_eqb, le-leb}
+use Rattle.std.proofs.Common.{◌≡◌, ℕ, zero, suc, ◌+◌, ◌*◌, ◌/◌, ◌%◌, ◌^◌, ◌<◌, ◌≤◌, true, false, cond, ltb, List, [], ◌∷◌, ◌++◌, length, get_or, Some, Ok, decimal, Option, sym, refl, ap, ◌∙◌, subst, append_assoc, pow-suc, arith, ltb-false, ltb-true, lt-ltb, eq-eqb, ne_eqb, le-leb}
 use Rattle.std.proofs.lemmas.Bool.Decides.{nat_tests}
 use Rattle.std.specs.List.{AllByRecursion}
 use Rattle.std.proofs.ByRecursion.{All-append, All-push, All-weaker}
@@ -7,6 +7,7 @@ use Rattle.std.proofs.lemmas.List.{length-append, append-nil}
 use Rattle.std.proofs.lemmas.Fmt.{decimal_by_steps, decimal_nonempty, length-decimal-le, first_decimal}
 use Rattle.text.specs.Lines.{up_to, past}
 use Rattle.text.specs.Fields.{commas, digit_of, with_digit, number_from, hex_field, count_field}
+use Rattle.text.proofs.Cuts.{up_to_more, past_more, comma_here, comma_more}
 use Rattle.text.specs.Commands.{command_of, given}
 use Rattle.text.specs.declared.command.Command.{Command}
 use Rattle.text.specs.declared.command.Command.TheVariants.{Read, Write, Tick}
@@ -22,41 +23,43 @@ Plain f = AllByRecursion (λ b. 48 ≤ b) f
 module _ (r : List ℕ) where
   field_here : (f : List ℕ) → Plain f → up_to 44 (f ++ (44 ∷ r)) ≡ f
   field_here [] h = refl
-  field_here (b ∷ f) h = rw (ne_eqb b 44 (λ e. omega (arith, h.0))) (ap (λ y. b ∷ y) (field_here f h.1))
-
-  field_past : (f : List ℕ) → drop (suc (length f)) (f ++ (44 ∷ r)) ≡ r
-  field_past [] = refl
-  field_past (b ∷ f) = field_past f
+  field_here (b ∷ f) h = up_to_more 44 b (f ++ (44 ∷ r)) (λ e. omega (arith, h.0)) ∙ ap (λ y. b ∷ y) (field_here f h.1)
 
   next_field : (f : List ℕ) → Plain f → past 44 (f ++ (44 ∷ r)) ≡ r
-  next_field f h = rw (field_here f h, add-one) (field_past f)
+  next_field [] h = refl
+  next_field (b ∷ f) h = past_more 44 b (f ++ (44 ∷ r)) (λ e. omega (arith, h.0)) ∙ next_field f h.1
 
   comma_then : (f : List ℕ) → Plain f → commas (f ++ (44 ∷ r)) ≡ suc (commas r)
-  comma_then [] h = refl
-  comma_then (b ∷ f) h = rw (ne_eqb b 44 (λ e. omega (arith, h.0))) (comma_then f h.1)
+  comma_then [] h = comma_here r
+  comma_then (b ∷ f) h = comma_more b (f ++ (44 ∷ r)) (λ e. omega (arith, h.0)) ∙ comma_then f h.1
 
 -- the last field
 field_last : (f : List ℕ) → Plain f → up_to 44 f ≡ f
 field_last [] h = refl
-field_last (b ∷ f) h = rw (ne_eqb b 44 (λ e. omega (arith, h.0))) (ap (λ y. b ∷ y) (field_last f h.1))
+field_last (b ∷ f) h = up_to_more 44 b f (λ e. omega (arith, h.0)) ∙ ap (λ y. b ∷ y) (field_last f h.1)
 
 comma_none : (f : List ℕ) → Plain f → commas f ≡ 0
 comma_none [] h = refl
-comma_none (b ∷ f) h = rw (ne_eqb b 44 (λ e. omega (arith, h.0))) (comma_none f h.1)
+comma_none (b ∷ f) h = comma_more b f (λ e. omega (arith, h.0)) ∙ comma_none f h.1
+
+-- the kind, then the other fields
+kind_commas : (kind : ℕ) (f : List ℕ) → (kind ≡ 44 → ⊥) → commas (kind ∷ (44 ∷ f)) ≡ suc (commas f)
+kind_commas kind f h = comma_more kind (44 ∷ f) h ∙ comma_here f
 
 read_text : (f : List ℕ) → Plain f → command_of (82 ∷ (44 ∷ f)) ≡ given (hex_field 3 f) (λ o. Ok (Read o))
-read_text f h = rw (comma_none f h, field_last f h) refl
+read_text f h = rw (kind_commas 82 f (λ e. omega arith), comma_none f h, field_last f h) refl
 
 write_text : (f g : List ℕ) → Plain f → Plain g
     → command_of (87 ∷ (44 ∷ (f ++ (44 ∷ g)))) ≡ given (hex_field 3 f) (λ o. given (hex_field 8 g) (λ v. Ok (Write o v)))
 write_text f g hf hg =
-    rw (comma_then g f hf, comma_none g hg, next_field g f hf, field_here g f hf, field_last g hg) refl
+    rw (kind_commas 87 (f ++ (44 ∷ g)) (λ e. omega arith), comma_then g f hf, comma_none g hg, next_field g f hf, field_here g f hf, field_last g hg) refl
 
 tick_text : (n f g : List ℕ) → Plain n → Plain f → Plain g
     → command_of (84 ∷ (44 ∷ (n ++ (44 ∷ (f ++ (44 ∷ g))))))
     ≡ given (count_field n) (λ m. given (hex_field 6 f) (λ b. given (hex_field 2 g) (λ i. Ok (Tick m b i))))
 tick_text n f g hn hf hg =
     rw (
+      kind_commas 84 (n ++ (44 ∷ (f ++ (44 ∷ g)))) (λ e. omega arith),
       comma_then (f ++ (44 ∷ g)) n hn,
       comma_then g f hf,
       comma_none g hg,

@@ -1,5 +1,5 @@
 -- What is said of scripts.
-use Rattle.std.specs.Prelude.{◌≡◌, ℕ, ◌<◌, ◌≤◌, List, [], ◌∷◌, ◌++◌, length, Ok}
+use Rattle.std.specs.Prelude.{◌≡◌, ℕ, ◌<◌, ◌≤◌, List, [], ◌∷◌, ◌++◌, length, None, Ok}
 use Rattle.std.specs.List.{AllByRecursion}
 use Rattle.card.specs.Calls.{Card, Got, powered_on, read_done, write_done}
 use Rattle.text.specs.Lines.{lines_of}
@@ -36,13 +36,13 @@ abbrev pub AccessesPerformed : Type 0
 AccessesPerformed =
     (cs : List Command) (bs : List ℕ) (room : ℕ) → AllByRecursion Fits cs → Performed powered_on cs bs
     → length (written (texts_of cs)) ≤ 65536 → length bs ≤ room
-    → script_ran (written (texts_of cs)) room ≡ record { lines = length cs; bytes = bs; code = 0 }
+    → script_ran (written (texts_of cs)) room ≡ record { lines = length cs; bytes = bs; stopped = None }
 
 -- first lines of a script, and what follows them, run to the end: so are the first lines alone, with the first part of the output
 abbrev pub PrefixStands : Type 0
 PrefixStands =
     (ls : List (List ℕ)) (after : List ℕ) (room : ℕ) → AllByRecursion Line ls
-    → (script_ran (written ls ++ after) room).code ≡ 0
-    → ((script_ran (written ls) room).code ≡ 0)
+    → (script_ran (written ls ++ after) room).stopped ≡ None
+    → ((script_ran (written ls) room).stopped ≡ None)
     × ((script_ran (written ls) room).lines ≡ length ls)
     × ((more : List ℕ) × ((script_ran (written ls ++ after) room).bytes ≡ (script_ran (written ls) room).bytes ++ more))

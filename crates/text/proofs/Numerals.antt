@@ -1,31 +1,13 @@
 -- Steps of `number_from`, and its bound.
-use Rattle.std.proofs.Common.{◌≡◌, ℕ, ◌+◌, ◌*◌, ◌^◌, ◌<◌, ◌≤◌, List, length, get_or, drop, Some, None, Option, refl, ap, ◌∙◌, subst, mul-le-mul_left, pow-suc, add-one, arith, le-ltb, lt-ltb}
+use Rattle.std.proofs.Common.{◌≡◌, ℕ, ◌+◌, ◌*◌, ◌^◌, ◌<◌, ◌≤◌, List, length, get_or, drop, Some, refl, ap, ◌∙◌, mul-le-mul_left, pow-suc, add-one, arith, lt-ltb}
 use native.Mathlib.Nat.{pow-le-pow_right}
 use Rattle.std.proofs.lemmas.List.{at_drop_more}
-use Rattle.text.specs.Fields.{digit_of, with_digit, number_from}
+use Rattle.text.specs.Fields.{digit_of, number_from}
 
-module _ (base v : ℕ) (s : List ℕ) (i : ℕ) (h : i < length s) where
-  step : Option ℕ → Option ℕ
-  step o = with_digit base (λ d. number_from base (v * base + d) (drop (i + 1) s)) o
-
-  pub no_digit : None ≡ digit_of (get_or s i 0) → number_from base v (drop i s) ≡ None
-  unfolding step
-  no_digit e =
-      let P : Option ℕ → Type 0 = λ o. step o ≡ None in
-      at_drop_more (number_from base v) s i 0 h ∙ subst P e refl
-
-  pub one_digit : (d : ℕ) → Some d ≡ digit_of (get_or s i 0) → d < base
-      → number_from base v (drop i s) ≡ number_from base (v * base + d) (drop (i + 1) s)
-  unfolding step
-  one_digit d e lt =
-      let P : Option ℕ → Type 0 = λ o. step o ≡ number_from base (v * base + d) (drop (i + 1) s) in
-      at_drop_more (number_from base v) s i 0 h ∙ subst P e (rw (lt-ltb d base lt))
-
-  pub large_digit : (d : ℕ) → Some d ≡ digit_of (get_or s i 0) → base ≤ d → number_from base v (drop i s) ≡ None
-  unfolding step
-  large_digit d e le =
-      let P : Option ℕ → Type 0 = λ o. step o ≡ None in
-      at_drop_more (number_from base v) s i 0 h ∙ subst P e (rw (le-ltb d base le))
+pub one_digit : (base v : ℕ) (s : List ℕ) (i : ℕ) → i < length s → (d : ℕ) → Some d ≡ digit_of (get_or s i 0) → d < base
+    → number_from base v (drop i s) ≡ number_from base (v * base + d) (drop (i + 1) s)
+one_digit base v s i h d e lt =
+    at_drop_more (number_from base v) s i 0 h ∙ rw (← e, lt-ltb d base lt) refl
 
 pub digit_bound : (v base d i : ℕ) → v < 16 ^ i → base ≤ 16 → d < base → v * base + d < 16 ^ (i + 1)
 digit_bound v base d i hv hb hd =

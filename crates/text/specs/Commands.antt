@@ -1,6 +1,6 @@
 -- What a line of a script asks for.
 use Rattle.std.specs.Prelude.{ℕ, cond, ◌&&◌, List, Some, None, Ok, Err, Option, Result, ◌==◌}
-use Rattle.text.specs.Fields.{field, letter, commas, hex_field, count_field}
+use Rattle.text.specs.Fields.{field, letter, is_letter, commas, hex_field, count_field}
 use Rattle.text.specs.declared.fault.Fault.{Fault}
 use Rattle.text.specs.declared.fault.Fault.TheVariants.{Form, Field}
 use Rattle.text.specs.declared.command.Command.{Command}
@@ -27,6 +27,6 @@ tick_of l =
 -- the kind, R 82, T 84 or W 87, and the number of fields come first
 abbrev pub command_of : List ℕ → Result Command Fault
 command_of l =
-    cond (letter (field 0 l) == 82 && commas l == 1) (read_of l)
-    (cond (letter (field 0 l) == 84 && commas l == 3) (tick_of l)
-    (cond (letter (field 0 l) == 87 && commas l == 2) (write_of l) (Err Form)))
+    cond (is_letter 82 (letter (field 0 l)) && commas l == 1) (read_of l)
+    (cond (is_letter 84 (letter (field 0 l)) && commas l == 3) (tick_of l)
+    (cond (is_letter 87 (letter (field 0 l)) && commas l == 2) (write_of l) (Err Form)))

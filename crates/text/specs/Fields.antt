@@ -1,22 +1,27 @@
 -- The fields of a line, and the numbers that they write.
-use Rattle.std.specs.Prelude.{ℕ, zero, suc, ◌+◌, ◌-◌, ◌*◌, cond, not, ◌&&◌, List, [], ◌∷◌, length, Some, None, Option, ◌==◌, nat_le, nat_lt, slice_index}
+use Rattle.std.specs.Prelude.{ℕ, zero, suc, Bool, false, ◌+◌, ◌-◌, ◌*◌, cond, not, ◌&&◌, List, [], ◌∷◌, length, Some, None, Option, ◌==◌, nat_le, nat_lt, slice_index}
+use Rattle.std.specs.List.{count_by}
 use Rattle.text.specs.Lines.{up_to, past}
 
 -- how many bytes are a comma, 44
 abbrev pub commas : List ℕ → ℕ
-commas [] = 0
-commas (b ∷ bs) = cond (b == 44) (suc (commas bs)) (commas bs)
+commas l = count_by (λ b. b == 44) l
 
 -- the fields of a line are what stands between commas, and count from 0
 abbrev pub field : ℕ → List ℕ → List ℕ
 field zero l = up_to 44 l
 field (suc n) l = field n (past 44 l)
 
--- the letter of a field of one byte, else 0
-abbrev pub letter : List ℕ → ℕ
-letter [] = 0
-letter (b ∷ []) = b
-letter (b ∷ c ∷ bs) = 0
+-- the letter of a field of one byte
+abbrev pub letter : List ℕ → Option ℕ
+letter [] = None
+letter (b ∷ []) = Some b
+letter (b ∷ c ∷ bs) = None
+
+-- this letter, where there is one
+abbrev pub is_letter : ℕ → Option ℕ → Bool
+is_letter b None = false
+is_letter b (Some c) = c == b
 
 -- the value of one of 0 to 9 and A to F
 abbrev pub digit_of : ℕ → Option ℕ

@@ -23,11 +23,11 @@ pub fn parse_line(line: &[u8]) -> Result<Command, Fault>
     let mut fields = Reader::new(line);
     let more = fields.more_fields();
     match fields.kind() {
-        'R' if more == 1 => {
+        Some('R') if more == 1 => {
             let offset = fields.hex(3)?;
             Ok(Command::Read { offset })
         }
-        'T' if more == 3 => {
+        Some('T') if more == 3 => {
             let count = fields.count()?;
             let lines = fields.hex(6)?;
             let inputs = fields.hex(2)?;
@@ -37,7 +37,7 @@ pub fn parse_line(line: &[u8]) -> Result<Command, Fault>
                 inputs: inputs as u8,
             })
         }
-        'W' if more == 2 => {
+        Some('W') if more == 2 => {
             let offset = fields.hex(3)?;
             let value = fields.hex(8)?;
             Ok(Command::Write { offset, value })

@@ -22,10 +22,7 @@ pub(crate) fn number(field: &[u8], base: u32) -> Option<u32>
 {
     let mut value = 0;
     for b in field {
-        let d = digit(*b)?;
-        if d >= base {
-            return None;
-        }
+        let d = digit(*b).filter(|d| *d < base)?;
         value = value * base + d;
     }
     Some(value)

@@ -4,19 +4,25 @@ ghost use Rattle.text.specs.Faults.{fault_code};
 ghost use Rattle.text.specs.declared.fault.Fault.TheVariants.{Access};
 
 use refusal::Refusal;
+use thiserror::Error;
 
 /// Why a line is not run, or a script not begun.
-#[derive(Clone, Copy)]
+#[derive(Clone, Copy, Debug, PartialEq, Eq, Error)]
 pub enum Fault {
     /// The card refuses the access.
+    #[error(transparent)]
     Access(Refusal),
     /// The script has more bytes than one run takes.
+    #[error("the script is too long")]
     Length,
     /// The kind of the line is unknown, or it has too few or too many fields.
+    #[error("the line is of no kind, or has another number of fields than its kind")]
     Form,
     /// A field is badly written.
+    #[error("a field is badly written")]
     Field,
     /// The output cannot hold the next line whole.
+    #[error("the output has no room for the next line")]
     Full,
 }
 

@@ -5,18 +5,6 @@ ghost use Rattle.text.specs.Cursor.{rest, line_taken};
 
 use super::Reader;
 
-// How many bytes stand before the first `end`, or all of them.
-fn length_until(bytes: &[u8], end: u8) -> usize
-    ensures { result ≡ length (up_to end bytes.now) }
-{
-    for (i, b) in bytes.iter().enumerate() {
-        if *b == end {
-            return i;
-        }
-    }
-    bytes.len()
-}
-
 impl<'a> Reader<'a> {
     /// A reader that stands before the first byte.
     pub fn new(bytes: &'a [u8]) -> Reader<'a>
@@ -30,12 +18,10 @@ impl<'a> Reader<'a> {
         ensures answer { result.now ≡ up_to end (rest self.old) }
         ensures after { rest self.new ≡ past end (rest self.old) }
     {
-        let bytes = self.bytes;
-        let left = &bytes[self.at..];
-        let n = length_until(left, end);
-        let stop = self.at + n;
-        self.at = if stop < bytes.len() { stop + 1 } else { stop };
-        &left[0..n]
+        let left = &self.bytes[self.at..];
+        let n = left.iter().position(|b| *b == end).unwrap_or(left.len());
+        self.at = (self.at + n + 1).min(self.bytes.len());
+        &left[..n]
     }
 
     /// The next line without its byte 10, or none where no byte is left.

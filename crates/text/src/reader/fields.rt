@@ -18,25 +18,17 @@ impl<'a> Reader<'a> {
     pub(crate) fn more_fields(&self) -> usize
         ensures { result ≡ commas (rest self.now) }
     {
-        let bytes = self.bytes;
-        let left = &bytes[self.at..];
-        let mut n = 0;
-        for b in left {
-            if *b == b',' {
-                n += 1;
-            }
-        }
-        n
+        self.bytes[self.at..].iter().filter(|b| **b == b',').count()
     }
 
-    // The letter of a field of one byte; the character 0 for any other field.
-    pub(crate) fn kind(&mut self) -> char
+    // The letter of a field of one byte; none for any other field.
+    pub(crate) fn kind(&mut self) -> Option<char>
         ensures answer { result ≡ letter (up_to 44 (rest self.old)) }
         ensures after { rest self.new ≡ past 44 (rest self.old) }
     {
         match self.until(b',') {
-            [b] => char::from(*b),
-            _ => '\0',
+            [b] => Some(char::from(*b)),
+            _ => None,
         }
     }
 
@@ -60,12 +52,11 @@ impl<'a> Reader<'a> {
         ensures after { rest self.new ≡ past 44 (rest self.old) }
     {
         let field = self.until(b',');
-        if field.len() < 1 || field.len() > 6 || field[0] == b'0' {
+        if matches!(field, [] | [b'0', ..]) || field.len() > 6 {
             return Err(Fault::Field);
         }
-        match number(field, 10) {
-            Some(n) if n <= MAX_COUNT => Ok(n),
-            _ => Err(Fault::Field),
-        }
+        number(field, 10)
+            .filter(|n| *n <= MAX_COUNT)
+            .ok_or(Fault::Field)
     }
 }

@@ -3,12 +3,12 @@ use Rattle.card.specs.Calls.{tick_done}
 use Rattle.script.specs.Runs.{ticked}
 use Rattle.script.proofs.run.tick_many.Goals as goal
 
-pub loop-i-init : goal.loop-i-init
+pub loop-init : goal.loop-init
 unfolding ticked
-loop-i-init c = refl
+loop-init c = refl
 
-pub loop-i-preserved : goal.loop-i-preserved
+pub loop-preserved : goal.loop-preserved
 unfolding ticked
-loop-i-preserved c =
-    c.tick.ensures.after ∙ (ap (λ k. tick_done c.args.lines c.args.inputs k) c.loop-i.invariant
-    ∙ ap (λ n. ticked n c.args.lines c.args.inputs c.args.card.now) (sym (add-one c.loop-i._i)))
+loop-preserved c =
+    c.tick.ensures.after ∙ (ap (λ k. tick_done c.args.lines c.args.inputs k) c.loop.invariant
+    ∙ ap (λ n. ticked n c.args.lines c.args.inputs c.args.card.now) (sym (add-one c.loop.counter)))

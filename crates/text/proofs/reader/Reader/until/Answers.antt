@@ -1,32 +1,24 @@
-use Rattle.std.proofs.Common.{drop, ap, ◌∙◌, arith}
-use Rattle.text.proofs.Cuts.{cut_within, cut_value, cut_past, cut_end}
+use Rattle.std.proofs.Common.{◌≡◌, ◌+◌, ◌-◌, ◌==◌, length, take, drop, unwrap_or, sym, refl, ap, ◌∙◌, arith, drop-drop, rules, tests}
+use Rattle.std.specs.List.{position, position_or_len}
+use Rattle.std.proofs.lemmas.Iterator.{YieldsList-from_slice}
+use Rattle.std.proofs.lemmas.Iterator.Search.{position_from_yields_List}
+use Rattle.std.proofs.lemmas.List.{take_rest, drop_min}
+use Rattle.text.proofs.Cuts.{unwrap_position}
 use Rattle.text.proofs.reader.Reader.until.Goals as goal
-use Rattle.text.proofs.reader.Reader.until.Goals.{then-stop-bytes, else-stop-bytes}
-
-pub overflow_add-stop : goal.overflow_add-stop
-overflow_add-stop c =
-    omega (
-      arith,
-      cut_within c.args.end c.args.self.now.bytes.now c.args.self.now.at c.length_until-n.result
-          c.length_until-n.ensures c.args.self.now.within,
-    )
-
-pub invariant_of-self : goal.invariant_of-self
-invariant_of-self c =
-    let b = cut_within c.args.end c.args.self.now.bytes.now c.args.self.now.at c.length_until-n.result
-    c.length_until-n.ensures c.args.self.now.within in
-    record { within = elim c.if-stop-bytes.branch [ then-stop-bytes w ↦ omega (arith, w.self-is) | else-stop-bytes w ↦ omega (arith, w.self-is) ] }
 
 pub returns : goal.returns
 returns c =
     let s = c.args.self.now.bytes.now in
     let a = c.args.self.now.at in
-    let n = c.length_until-n.result in
-    let e = c.args.end in
+    let n = c.unwrap_or-n.result in
+    let left = take (length s - a) (drop a s) in
+    let q : c.position.result ≡ position (λ b. b == c.args.end) left =
+    position_from_yields_List (λ b. b == c.args.end) _ _ _ c.position.ensures.ran (YieldsList-from_slice left cc) (λ x b q k. search (rules, tests)) in
+    let p : n ≡ position_or_len (λ b. b == c.args.end) (drop a s) =
+    c.unwrap_or-n.ensures ∙ (ap (λ o. unwrap_or o (length left)) q ∙ (unwrap_position (λ b. b == c.args.end) left ∙ ap (position_or_len (λ b. b == c.args.end)) (take_rest s a))) in
+    let k : a + n + 1 ≡ a + (n + 1) = omega arith in
     record {
-      answer = cut_value e s a n c.length_until-n.ensures;
-      after = elim c.if-stop-bytes.branch [
-        | then-stop-bytes w ↦ ap (λ k. drop k s) w.self-is ∙ cut_past e s a n c.length_until-n.ensures
-        | else-stop-bytes w ↦ ap (λ k. drop k s) w.self-is ∙ cut_end e s a n c.length_until-n.ensures (omega arith)
-      ];
+      answer = rw (take_rest s a, p) refl;
+      after =
+          ap (λ i. drop i s) (c.min-self.ensures) ∙ (drop_min (a + n + 1) s ∙ (ap (λ i. drop i s) k ∙ (sym (drop-drop (n + 1) a s) ∙ ap (λ i. drop (i + 1) (drop a s)) p)));
     }
