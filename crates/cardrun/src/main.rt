@@ -17,6 +17,6 @@ fn main(rt: HostRuntime) -> io::Result<()> {
     let run = run_script(&input, &mut output);
     output.truncate(run.bytes);
     rt.stdout().write_all(&output)?;
-    let last = refusal_line(rt.alloc(), run)?;
+    let last = refusal_line(rt.alloc(), run.into())?;
     rt.print(last)
 }

@@ -2,22 +2,23 @@
 ghost use Rattle.std.specs.Prelude.{◌≡◌, IfOk, string_bytes};
 ghost use Rattle.script.specs.Refusals.{refusal_bytes};
 
-use crate::run::Run;
+use crate::export::RunAnswer;
 use std::alloc::{AllocError, Global};
-use text::Fault;
 
 /// The last line that a program prints: `E,line,code` where a run was stopped, and no byte where it was not.
-pub fn refusal_line(heap: Global, run: Run) -> Result<String, AllocError>
-    ensures { IfOk result (λ s. string_bytes s ≡ refusal_bytes run) }
+pub fn refusal_line(heap: Global, answer: RunAnswer) -> Result<String, AllocError>
+    ensures { IfOk result (λ s. string_bytes s ≡ refusal_bytes answer) }
 {
-    let Some(fault) = run.stopped else {
+    // A host that has the C record alone asks too, so what stopped the run is told by its number here.
+    let code = answer.code;
+    if code == 0 {
         return Ok(String::new(heap));
-    };
+    }
     // A script that is too long is refused before its first line.
-    let line = match fault {
-        Fault::Length => 0,
-        _ => u64::from(run.lines) + 1,
+    let line = if code == 5 {
+        0
+    } else {
+        u64::from(answer.lines) + 1
     };
-    let code = fault.code();
     format!(in heap; "E,{line},{code}\n")
 }

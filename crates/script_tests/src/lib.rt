@@ -397,21 +397,21 @@ mod tests {
             bytes: 0,
             stopped: None,
         };
-        let last = refusal_line(rt.alloc(), none)?;
+        let last = refusal_line(rt.alloc(), none.into())?;
         assert_eq!(rt; last.as_str(), "");
         let fourth = Run {
             lines: 3,
             bytes: 30,
             stopped: Some(Fault::Access(Refusal::Offset)),
         };
-        let last = refusal_line(rt.alloc(), fourth)?;
+        let last = refusal_line(rt.alloc(), fourth.into())?;
         assert_eq!(rt; last.as_str(), "E,4,1\n");
         let length = Run {
             lines: 0,
             bytes: 0,
             stopped: Some(Fault::Length),
         };
-        let last = refusal_line(rt.alloc(), length)?;
+        let last = refusal_line(rt.alloc(), length.into())?;
         assert_eq!(rt; last.as_str(), "E,0,5\n");
         Ok(())
     }
