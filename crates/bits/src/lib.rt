@@ -54,6 +54,7 @@ pub trait Setting {
 }
 
 /// The field of `width` bits whose lowest is bit `low`.
+// Places and widths are numerals of the register map at almost every call, so no type for them is plainer than these bounds.
 pub fn field<W: Word>(word: W, low: u32, width: u32) -> u32
     requires low { low < 64 }
     requires width { width ≤ 32 }

@@ -8,6 +8,7 @@ use channel::act::{Act, Bit, Share};
 use table::{act_on_all, gather};
 
 /// MCR STA.
+// Idle is status 00, one of the field's four names, so that no Option of the other three is plainer.
 #[derive(Clone, Copy, PartialEq, Eq)]
 pub enum SnapshotStatus {
     /// Nothing is collected or unread.

@@ -19,6 +19,7 @@ impl Card {
         }
     }
 
+    // Two words and no struct of both: so the call is named, and so scripts and lists of calls write it out.
     /// One tick of 10 ns with the levels of the encoder lines, in bits 23 to 0, and of the 24 V inputs.
     #[tactic(auto, unfolding(crate::specs::Calls::tick_done, crate::specs::Calls::tick_levels))]
     pub fn tick(&mut self, lines: u32, inputs: u8) -> Levels

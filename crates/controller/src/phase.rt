@@ -31,6 +31,7 @@ pub struct Transmission {
 }
 
 /// What the controller is doing.
+// Waiting is a phase by its name, and every tick matches all three with what is due, so it is no None.
 #[derive(Clone, Copy)]
 pub enum Phase {
     /// Ready for a request.

@@ -17,6 +17,7 @@ pub struct Causes {
 }
 
 /// The count, the compare value, the latched count and the status bits.
+// The latched count is no Option beside DRL: the Data Register shows it when the lock is let go, and 0 before the first.
 #[derive(Clone, Copy, Default)]
 pub struct Counter {
     pub count: Count,

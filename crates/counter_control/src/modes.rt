@@ -6,6 +6,7 @@ use bits::Setting;
 use refusal::Refusal;
 
 /// How the lines, or the internal clock, make steps.
+// Disabled is INPUT 000, one of the field's eight names, so that no Option of the other seven is plainer.
 #[derive(Clone, Copy, Default, PartialEq, Eq)]
 pub enum InputMode {
     #[default]
@@ -45,6 +46,7 @@ pub enum SpecialMode {
 }
 
 /// What an event on I does.
+// Ignore is ICM 000, a name of the field as the other four are.
 #[derive(Clone, Copy, Default, PartialEq, Eq)]
 pub enum IndexMode {
     #[default]

@@ -12,6 +12,7 @@ pub struct Input {
     pub timing: FilterTiming,
     pub samples: Samples,
     /// ADE: the filter has the period of the shared debouncing register, and not one tick.
+    // A bit of its own beside the timing: the register reads it back, and a period of one tick does not tell it.
     pub debounced: bool,
     pub rising: Interrupt,
     pub falling: Interrupt,

@@ -3,6 +3,7 @@ ghost use Rattle.std.specs.Prelude.{◌≡◌};
 ghost use Rattle.parts.specs.Snapshots.{after_reading, cleared, collects, completed, emptied, enabled_as, is_collecting, is_unread, latched_with};
 
 /// How far a channel's part of a snapshot is.
+// The word stands beside it and not in Unread: a register shows the word in all three.
 #[derive(Clone, Copy, Default, PartialEq, Eq)]
 pub enum Progress {
     /// The word has been read, or there is none.

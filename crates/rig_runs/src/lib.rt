@@ -11,6 +11,7 @@ use card::Card;
 use field::field::Field;
 use rig::calls::{RigAnswer, RigCall, make_rig_call};
 
+// Lent places and no Vec: so the call allocates nothing and cannot fail.
 /// Makes calls in their order on a new card beside a field, as many as there are places for the answers, and gives back the card.
 pub fn run_calls<F: Field>(field: &mut F, calls: &[RigCall], answers: &mut [RigAnswer]) -> Card
     ensures state { bench result (F.Field.wired field.new) ≡ run_on (new_bench (F.Field.wired field.old)) (take (length answers.old) calls.now) }
@@ -20,6 +21,7 @@ pub fn run_calls<F: Field>(field: &mut F, calls: &[RigCall], answers: &mut [RigA
     ensures separate { Separate }
 {
     let mut card = Card::power_on();
+    // By index: of what `zip` over `iter_mut` writes a proof learns nothing (tried).
     let count = calls.len().min(answers.len());
     for i in 0..count {
         answers[i] = make_rig_call(&mut card, field, calls[i]);

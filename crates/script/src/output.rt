@@ -62,7 +62,7 @@ fn hex_digit(d: u32) -> u8
     }
 }
 
-// Fills `out` with the lowest digits of the value.
+// Fills `out` with the lowest digits of the value. By index: of what an adapter of `iter_mut` writes a proof learns nothing.
 fn put_hex(out: &mut [u8], value: u32)
     ensures { out.new ≡ hex_bytes (length out.old) value }
 {

@@ -1,6 +1,7 @@
 //! What a sensor is doing.
 
 /// What a sensor is doing.
+// Idle is a phase by its name, in which an edge begins a frame, so it is no None.
 #[derive(Clone, Copy)]
 pub enum Phase {
     /// It waits for a fall of its clock.

@@ -28,6 +28,7 @@ pub struct Timer {
     /// ITPRE, which acts at the next load.
     pub preload: u32,
     /// The periods left, which the Data Register shows; 0 never expires.
+    // The number of the register and no Option of it: 0 is what the register shows then.
     pub left: u32,
     /// The ticks left of the present base period.
     pub wait: u32,

@@ -51,6 +51,7 @@ impl Channel {
     }
 
     /// MODE as written; the mode that the channel has already is no change.
+    // The four codes are told apart here alone: a channel in SSI mode keeps its phase, so no conversion gives a mode.
     pub(super) fn write_mode(&mut self, code: u32)
         ensures { self.new ≡ mode_written code self.old }
     {

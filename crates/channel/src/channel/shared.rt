@@ -49,6 +49,7 @@ impl Channel {
     }
 
     /// What a write of a shared register asks of the channel at place `k`.
+    // A number and no type for a place: only the table's loops make it, and a type would be made by a check there.
     #[tactic(auto, unfolding(crate::specs::Shares::performed))]
     pub fn perform(&mut self, act: Act, k: u32)
         requires { k < 8 }

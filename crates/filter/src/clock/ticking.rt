@@ -7,6 +7,7 @@ use crate::timing::FilterTiming;
 
 impl FilterClock {
     /// The clock of two plain numbers, if a filter can have them.
+    // An Option and no TryFrom: there is one reason, and no caller has a use for an error.
     pub fn from_timing(timing: FilterTiming) -> Option<FilterClock>
         ensures { clock_made timing result }
     {
