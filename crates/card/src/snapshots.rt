@@ -1,6 +1,6 @@
 //! Snapshots over all channels: their status, their triggers, and what clears them.
 ghost use Rattle.std.specs.Prelude.{◌≡◌, ◌^◌, ◌<◌};
-ghost use Rattle.card.specs.Snapshots.{commanded, snapshots_cleared, status_of, status_word, timer_triggered, triggered, triggered_if};
+ghost use Rattle.card.specs.Snapshots.{commanded, snapshots_cleared, status_of, timer_triggered, triggered, triggered_if};
 
 use crate::Card;
 use bits::flag;
@@ -19,14 +19,6 @@ pub enum SnapshotStatus {
     Unread = 2,
     /// A trigger met a status other than idle.
     Overflow = 3,
-}
-
-impl SnapshotStatus {
-    pub(crate) fn word(self) -> u32
-        ensures { result ≡ status_word self }
-    {
-        self as u32
-    }
 }
 
 impl Card {

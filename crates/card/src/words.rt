@@ -101,7 +101,7 @@ impl Card {
     {
         match offset {
             0x000 => self.control_word(),
-            0x008 => self.snapshot_status().word(),
+            0x008 => self.snapshot_status() as u32,
             0x150 => gather(&self.channels, Share::Single(Bit::Input)),
             0x154 => self.debounce_word(),
             0x160 => self.shared.enables_word(),

@@ -17,6 +17,7 @@ pub enum FieldRefusal {
 
 impl FieldRefusal {
     /// The number that a host sees.
+    // A name of its own for the cast, since it says which number that is.
     pub fn code(self) -> u8
         ensures { result ≡ code_of self }
     {

@@ -6,9 +6,7 @@ ghost use Rattle.separate.specs.Separation.{Separate};
 
 /// Two lists of calls on new cards that are alike for a channel give that channel the same answers at every place;
 /// two lists that differ and are alike stand beside it.
-pub fn channels_apart() -> u8
+pub fn channels_apart()
     ensures apart { Separate }
     ensures example { AlikeForOne }
-{
-    0
-}
+{}
