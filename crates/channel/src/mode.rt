@@ -4,8 +4,8 @@ use controller::phase::Phase;
 /// The two codes of MODE that disable a channel; each reads back as written.
 #[derive(Clone, Copy)]
 pub enum OffCode {
-    Zeros,
-    Ones,
+    Zeros = 0,
+    Ones = 3,
 }
 
 /// What a channel works as.

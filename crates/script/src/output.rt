@@ -74,6 +74,7 @@ fn put_hex(out: &mut [u8], value: u32)
 }
 
 /// The line that an accepted read writes.
+// Digit by digit and no `write!`: a run has no heap, and the line goes to the caller's bytes.
 pub(crate) fn read_line(offset: u32, value: u32) -> [u8; READ_LINE]
     ensures { result ≡ line_of_read offset value }
 {

@@ -13,7 +13,6 @@ use sensor::constants::Constants;
 use sensor::gray::GraySensor;
 use sensor::refusal::FieldRefusal;
 use sensor::sensor::Sensor;
-use std::io;
 
 /// Where the microphone stands for one seat: steps along the rail, and the turntable's position.
 struct Seat {
@@ -151,25 +150,21 @@ impl Hall {
     }
 }
 
-fn main(rt: HostRuntime) -> io::Result<()> {
-    let Ok(field) = wire() else {
-        return println!(rt; "the turntable cannot be plugged");
-    };
+fn main(rt: HostRuntime) -> anyhow::Result<()> {
     let mut hall = Hall {
         card: Card::power_on(),
-        field,
+        field: wire()?,
         carriage: 0,
     };
-    let _ = hall.set_up();
+    hall.set_up()?;
     for seat in SEATS.iter() {
         hall.move_carriage(seat.rail);
-        let _ = hall.field.turn(1, seat.turntable);
-        if let Ok(Delivered { rail, turntable }) = hall.measure() {
-            println!(rt;
-                "seat {}: rail set {} delivered {rail}, turntable set {} delivered {turntable}",
-                seat.number, seat.rail, seat.turntable
-            )?;
-        }
+        hall.field.turn(1, seat.turntable)?;
+        let Delivered { rail, turntable } = hall.measure()?;
+        println!(rt;
+            "seat {}: rail set {} delivered {rail}, turntable set {} delivered {turntable}",
+            seat.number, seat.rail, seat.turntable
+        )?;
         hall.rest();
     }
     Ok(())

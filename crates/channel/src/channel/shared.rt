@@ -6,7 +6,7 @@ ghost use Rattle.channel.specs.Shares.{bit_of, clock_level, controlled, word_of_
 
 use super::Channel;
 use crate::act::{Act, Bit, Share};
-use crate::mode::{Mode, OffCode};
+use crate::mode::Mode;
 use bits::{field, flag, with_bit};
 use parts::interrupt::Interrupt;
 
@@ -83,10 +83,9 @@ impl Channel {
         ensures below { result < 2 ^ 2 }
     {
         match self.mode {
-            Mode::Off(OffCode::Zeros) => 0,
+            Mode::Off(code) => code as u32,
             Mode::Ssi(_) => 1,
             Mode::Counter => 2,
-            Mode::Off(OffCode::Ones) => 3,
         }
     }
 
