@@ -1,4 +1,4 @@
-use Rattle.std.proofs.Common.{rules}
+use Rattle.std.proofs.Common.{refl, rules}
 use Rattle.filter.specs.Filters.{samples_in, ticked}
 use Rattle.counter_control.specs.Words.{decoded}
 use Rattle.counter_count.specs.Ticks.{advanced, advance_outcome}
@@ -13,4 +13,14 @@ use Rattle.counts.proofs.wraps_counted.Goals as goal
 
 pub returns : goal.returns
 unfolding samples_in ticked decoded advanced advance_outcome counter.ticked commanded control_answer control_written data_read entered preload_loaded preload_written register_taken register_written performed channel_ticked acted table_ticked powered_on read_done tick_done write_done
-returns c = search rules
+returns c = record {
+  up_fits = search rules;
+  up_load = refl;
+  up_sum = refl;
+  up_count = refl;
+  up_others = refl;
+  down_fits = search rules;
+  down_load = refl;
+  down_sum = refl;
+  down_count = refl;
+}
