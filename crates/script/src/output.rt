@@ -67,6 +67,7 @@ fn put_hex(out: &mut [u8], value: u32)
     ensures { out.new ≡ hex_bytes (length out.old) value }
 {
     let mut rest = value;
+    // By index, since of the elements that a reversed `iter_mut` lends a proof learns nothing.
     for i in (0..out.len()).rev() {
         out[i] = hex_digit(rest % 16);
         rest /= 16;

@@ -31,6 +31,7 @@ impl Fault {
     pub fn code(self) -> u8
         ensures { result ≡ fault_code self }
     {
+        // A match, since a variant that holds a refusal has no discriminant to cast.
         match self {
             Fault::Access(refusal) => refusal.code(),
             Fault::Length => 5,
