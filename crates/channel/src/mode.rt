@@ -9,6 +9,7 @@ pub enum OffCode {
 }
 
 /// What a channel works as.
+// Off is the working part of two of MODE's codes, so it is no None.
 #[derive(Clone, Copy)]
 pub enum Mode {
     Off(OffCode),

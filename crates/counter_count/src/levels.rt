@@ -43,6 +43,7 @@ impl Change {
         }
     }
 
+    // A and B each by a question of its own: every step tells them apart.
     pub(crate) fn a_moved(self) -> bool
         ensures { result ≡ differ self.before.a self.after.a }
     {

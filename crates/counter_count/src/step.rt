@@ -59,6 +59,7 @@ impl Step {
     }
 
     /// The step of a tick in which no level changes.
+    // `of` gives the same there; this short way stays beside it for speed, since almost every tick is such a one.
     pub(crate) fn at_rest(input: InputMode, due: bool) -> Step
         ensures { result ≡ clock_step input due }
     {

@@ -48,6 +48,7 @@ impl Setting for TimeBase {
 }
 
 impl TimeBase {
+    // The bases of this register, in a table of their own: nothing takes other clocks as well.
     fn ticks(self) -> u64
         ensures { result ≡ base_ticks self }
     {

@@ -60,6 +60,7 @@ impl Setting for Base {
 }
 
 impl Base {
+    // The bases of this register, in a table of their own: nothing takes other clocks as well.
     fn ticks(self) -> u32
         ensures { result ≡ base_ticks self }
     {

@@ -85,6 +85,7 @@ impl Channel {
     }
 
     /// Counter Mode in a tick that left the levels as they were.
+    // `count` gives the same; this short way stays beside it for speed.
     fn count_at_rest(&mut self, levels: Levels)
         ensures { self.new ≡ counted levels levels self.old }
     {
