@@ -19,5 +19,6 @@ bytes_of_refusal lines None = []
 bytes_of_refusal lines (Some f) =
     codes "E," ++ (decimal (refused_line lines f) ++ (codes "," ++ (decimal (fault_code f) ++ codes "\n")))
 
+-- the line of a run
 abbrev pub refusal_bytes : Run → List ℕ
 refusal_bytes r = bytes_of_refusal r.lines r.stopped
