@@ -5,6 +5,7 @@ ghost use Rattle.rig_parts.specs.Lines.{CarriesLevels, composed, with_bit, with_
 use field::field::{CHANNELS, Field};
 
 /// A word with the bit at a place made a level.
+// Not `bits::with_bit`, which puts a bit on a word that ends below it: here the place has a level already.
 fn put_bit(word: u32, place: u32, level: bool) -> u32
     requires { place < 32 }
     ensures { result ≡ with_bit word place level }

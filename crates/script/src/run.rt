@@ -1,5 +1,5 @@
 // A script on a card, line by line.
-ghost use Rattle.std.specs.Prelude.{◌≡◌, ◌^◌, ◌+◌, ◌<◌, length};
+ghost use Rattle.std.specs.Prelude.{◌≡◌, length};
 ghost use Rattle.text.specs.declared.command.Command.TheVariants.{Read};
 ghost use Rattle.script.specs.Cursor.{left};
 ghost use Rattle.script.specs.Runs.{performed, fitting, ticked, line_ran, script_ran, script_on, run_of, output_of, Ran, RanAll};
