@@ -5,6 +5,7 @@ ghost use Rattle.std.specs.Prelude.{◌≡◌, ℕ, ◌+◌, ◌*◌, ◌^◌, �
 ghost use Rattle.bits.specs.Words.{bit_at, field_at, word_field, word_flag};
 
 /// A word whose bits are looked at.
+// No Into<u64>, of which a clause cannot name the one number that it gives.
 pub trait Word {
     ghost value: { Self → ℕ };
 
@@ -40,7 +41,7 @@ pub trait Setting {
 
     ghost number_of: { Self → ℕ };
 
-    /// What a number sets; a field of a word holds no number above its width.
+    /// What a number sets. A number that the field cannot hold sets what its highest number does, or any.
     fn from_number(number: u32) -> Self
         ensures { result ≡ named number };
 
@@ -81,6 +82,7 @@ pub fn setting_at<S: Setting>(word: u32, low: u32) -> S
 }
 
 /// A word that ends below a place, with a field put there.
+// No type that keeps where a word ends: each step would ask for a place from there on, as `below` does now.
 pub fn with_field(word: u32, low: u32, width: u32, value: u32) -> u32
     requires room { low + width ≤ 32 }
     requires width { width < 32 }

@@ -2,6 +2,7 @@
 #![tactic(auto)]
 
 use channel::channel::Channel;
+use table::CHANNELS;
 
 mod access;
 pub mod shared;
@@ -15,7 +16,7 @@ use shared::Shared;
 /// The card's state: the table of channels, and what is named for no single channel.
 #[derive(Clone, Copy)]
 pub struct Card {
-    channels: [Channel; 8],
+    channels: [Channel; CHANNELS],
     shared: Shared,
 }
 

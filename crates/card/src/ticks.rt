@@ -5,7 +5,7 @@ ghost use Rattle.card.specs.Calls.{powered_on, tick_done, tick_levels};
 use crate::shared::Shared;
 use crate::{Card, Levels};
 use channel::channel::Channel;
-use table::tick_all;
+use table::{CHANNELS, tick_all};
 
 impl Card {
     /// A card that has just been switched on.
@@ -14,12 +14,12 @@ impl Card {
         ensures { result ≡ powered_on }
     {
         Card {
-            channels: [Channel::power_on(); 8],
+            channels: [Channel::power_on(); CHANNELS],
             shared: Shared::power_on(),
         }
     }
 
-    // Two words and no struct of both: so the call is named, and so scripts and lists of calls write it out.
+    // Two words and no struct of both: a line of a script, a call of a list and a host have them one after the other.
     /// One tick of 10 ns with the levels of the encoder lines, in bits 23 to 0, and of the 24 V inputs.
     #[tactic(auto, unfolding(crate::specs::Calls::tick_done, crate::specs::Calls::tick_levels))]
     pub fn tick(&mut self, lines: u32, inputs: u8) -> Levels

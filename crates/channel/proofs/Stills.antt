@@ -37,18 +37,18 @@ steady_former x l e = go (samples_in l.timing) (lines_steady x l) e
     go false steady q = refl
 
 -- what a tick tells, with the levels after it, gives the levels before it
-pub before_ticked : (x : Levels) (l : Lines) → levels_before (former_levels x l) (lines_ticked x l) ≡ levels_of l
+pub before_ticked : (x : Levels) (l : Lines) → levels_before (former_levels x l) (levels_of (lines_ticked x l)) ≡ levels_of l
 before_ticked x l = go (samples_in l.timing) (lines_steady x l) refl refl
   where
     go : (due steady : Bool) → samples_in l.timing ≡ due → lines_steady x l ≡ steady
-        → levels_before (cond (due && not steady) (Some (levels_of l)) None) (lines_ticked x l) ≡ levels_of l
+        → levels_before (cond (due && not steady) (Some (levels_of l)) None) (levels_of (lines_ticked x l)) ≡ levels_of l
     go true true d e = ap levels_of (sym (steady_ticked x l e))
     go true false d e = refl
     go false steady d e = rw d refl
 
 -- the tick of a channel, from what its lines told
-pub told_ticked : (x : Levels) (i expired : Bool) (c : Channel) (former : Option Levels) (before after : Levels) (l : Lines) (n : Input)
-    → former ≡ former_levels x c.lines → before ≡ levels_before former l → after ≡ levels_of l → l ≡ lines_ticked x c.lines
-    → n ≡ input_ticked i c.input → worked before after expired (seeing c l c.debounce n) ≡ channel_ticked x i expired c
+pub told_ticked : (x : Levels) (i expired : Bool) (c : Channel) (former : Option Levels) (after : Levels) (l : Lines) (n : Input)
+    → former ≡ former_levels x c.lines → after ≡ levels_of l → l ≡ lines_ticked x c.lines
+    → n ≡ input_ticked i c.input → worked (levels_before former after) after expired (seeing c l c.debounce n) ≡ channel_ticked x i expired c
 unfolding channel_ticked
-told_ticked x i expired c former before after l n p b a q r = rw (b, a, p, q, r, before_ticked x c.lines) refl
+told_ticked x i expired c former after l n p a q r = rw (a, p, q, r, before_ticked x c.lines) refl

@@ -37,10 +37,10 @@ lines_steady x l = steady_at x.a l.a && (steady_at x.b l.b && steady_at x.i l.i)
 abbrev pub former_levels : Levels → Lines → Option Levels
 former_levels x l = cond (samples_in l.timing && not (lines_steady x l)) (Some (levels_of l)) None
 
--- the levels before a tick, from what it told and from the lines after it
-abbrev pub levels_before : Option Levels → Lines → Levels
-levels_before (Some x) l = x
-levels_before None l = levels_of l
+-- the levels before a tick, from what it told and from the levels after it
+abbrev pub levels_before : Option Levels → Levels → Levels
+levels_before (Some x) y = x
+levels_before None y = y
 
 -- all three restart together; samples and levels stay
 abbrev pub lines_restarted : ℕ → Lines → Lines

@@ -1,8 +1,8 @@
 //! What an access to a shared register means for one channel.
 
 /// What a write of a shared register asks of each channel; a word has one place for each channel.
-// Named acts and bits and no closures at the table's loops: with closures (tried) each of the 23 places needed an
-// answer by hand that its closure is the definition's function, and the laws speak of any act as a value.
+// Acts and bits by name, and no closures at the table's loops: the laws over runs speak of any act as a value, and with
+// closures (tried) each of the 23 places wants an answer by hand that its closure is the definition's function.
 #[derive(Clone, Copy)]
 pub enum Act {
     /// Global Control: MODE in bits 15 to 0, the snapshot enables in bits 23 to 16.

@@ -37,6 +37,7 @@ pub struct SsiControl {
     pub delay: u32,
 }
 
+// One bit of the two: START 10 and 11 are refused before, with the listen-only mode.
 impl Setting for Start {
     const WIDTH: u32 = 1;
 

@@ -10,6 +10,7 @@ use frame::reader::read_frame;
 use refusal::Refusal;
 
 /// The SSI registers of a channel.
+// The last frame's fields by the registers that show them, also before there was a frame, and no `frame::reader::Reading`.
 #[derive(Clone, Copy, Default)]
 pub struct Ssi {
     /// The SSI Mode Control Register.

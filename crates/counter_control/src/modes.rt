@@ -117,7 +117,7 @@ impl Setting for BaseClock {
 
 impl BaseClock {
     /// The ticks of 10 ns in a period of this clock.
-    // The clocks of this register, in a table of their own: nothing takes other time bases as well.
+    // Each register has clocks of its own, so there is no one table of them.
     pub fn ticks(self) -> u32
         ensures answer { result ≡ ticks_of self }
         ensures some { 1 ≤ result }

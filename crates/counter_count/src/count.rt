@@ -10,7 +10,7 @@ use counter_control::control::Control;
 use counter_control::modes::{IndexMode, SpecialMode};
 
 /// What became of the count, as far as the status bits follow it.
-// Status bits tell all six apart, so that no Option or Result names them.
+// All six are told apart, Held from Loaded by MAT and the others by DIR, SGN, CRY and BOR, so that none of them is a None.
 #[derive(Clone, Copy, PartialEq, Eq)]
 pub enum Outcome {
     /// No step and no load, or a step that was not made.
@@ -58,7 +58,7 @@ impl Count {
         true
     }
 
-    // `up` stays a bool down to `take`: steps get their way from comparisons of levels, and DIR keeps it as a bit.
+    // Up or down is a bool from `take` on, which leaves a Step with no other two; a comparison and DIR have it as a bit too.
 
     // whether a step from this value wraps
     fn wraps(&self, up: bool) -> bool

@@ -6,7 +6,7 @@ use crate::levels::Change;
 use counter_control::modes::{IndexMode, InputMode};
 
 /// One up, one down, or none.
-// The register map names these three kinds; an Option of a direction would read Some(Direction::Up) in every arm.
+// A step is +1, −1 or 0; an Option of a direction would read Some(Direction::Up) in every arm.
 #[derive(Clone, Copy, PartialEq, Eq)]
 pub enum Step {
     Hold,

@@ -50,7 +50,7 @@ pub struct NotPlugged<S, F> {
     pub below: F,
 }
 
-// By hand, since a derived one has no `from_gives` for a clause to cite.
+// By hand: `?` keeps the refusal and lets sensor and field go.
 impl<S: Drop, F: Drop> From<NotPlugged<S, F>> for FieldRefusal {
     ghost from_gives = { λ e r. r ≡ e.refusal };
 

@@ -75,10 +75,7 @@ mod tests {
 
     #[test]
     fn frames(rt: HostRuntime) -> Result<(), Fail> {
-        let mut field = match bench() {
-            Ok(field) => field,
-            Err(_) => return Err(Fail::new("no bench")),
-        };
+        let mut field = bench()?;
         assert_eq!(rt; field.turn(5, 9), Ok(()));
         assert_eq!(rt; field.turn(2, 200), Ok(()));
         // IN1 of channels 2 and 5 are bits 7 and 16
@@ -103,10 +100,7 @@ mod tests {
 
     #[test]
     fn refusals(rt: HostRuntime) -> Result<(), Fail> {
-        let mut field = match bench() {
-            Ok(field) => field,
-            Err(_) => return Err(Fail::new("no bench")),
-        };
+        let mut field = bench()?;
         assert_eq!(rt; field.turn(5, 16), Err(FieldRefusal::Value));
         assert_eq!(rt; field.turn(4, 16), Err(FieldRefusal::Channel));
         assert_eq!(rt; field.turn(8, 4_000_000_000), Err(FieldRefusal::Channel));

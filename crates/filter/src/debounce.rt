@@ -48,7 +48,7 @@ impl Setting for TimeBase {
 }
 
 impl TimeBase {
-    // The bases of this register, in a table of their own: nothing takes other clocks as well.
+    // Each register has clocks of its own, so there is no one table of them.
     fn ticks(self) -> u64
         ensures { result ≡ base_ticks self }
     {

@@ -73,7 +73,7 @@ impl Setting for Code {
 }
 
 impl Span {
-    /// The bits that a field of two bits names; 0 names none, and any other number above 2 names both.
+    /// The bits that a field of two bits names: 0 none, 1 the data bits, 2 the extra bits, and any other number both.
     pub fn from_number(number: u32) -> Option<Span>
         ensures { result ≡ span_at number }
     {

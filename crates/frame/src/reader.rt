@@ -29,10 +29,9 @@ fn parity_shown(format: Format, word: u64) -> bool
 fn parity_fails(format: Format, word: u64) -> bool
     ensures { result ≡ is_parity_wrong format word }
 {
-    match format.parity {
-        None => false,
-        Some(parity) => format.widths().parity_off(parity, word) == 1,
-    }
+    format
+        .parity
+        .is_some_and(|parity| format.widths().parity_off(parity, word) == 1)
 }
 
 /// What a frame word says.

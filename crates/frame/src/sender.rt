@@ -19,6 +19,7 @@ fn parity_bit(format: Format, body: u64) -> u64
     ensures answer { result ≡ sent_parity format body }
     ensures below { result < 2 }
 {
+    // A match, since the product in a closure wants the bound on the body as a clause of the closure.
     match format.parity {
         None => 0,
         Some(parity) => u64::from(format.widths().parity_off(parity, body * 2)),

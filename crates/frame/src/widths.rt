@@ -33,7 +33,8 @@ impl Widths {
         self.covered(span) * 2 + 1
     }
 
-    /// By how many the ones of a frame word that take part in parity are off the nearest right number: 0 or 1.
+    /// The ones of a frame word that take part in parity, with one more where it is odd, modulo 2: 0 where the parity is right.
+    // A number and no bool: the sender puts it in the frame as the parity bit.
     pub(crate) fn parity_off(self, parity: Parity, word: u64) -> u32
         ensures answer { result ≡ parity_off parity self.data_bits self.extra_bits word }
         ensures below { result < 2 }

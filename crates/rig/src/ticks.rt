@@ -10,7 +10,7 @@ use rig_parts::clocks::advance_all;
 use rig_parts::lines::compose;
 
 /// One tick of a card and of the sensors on its channels' IN1.
-// Two references and no struct of both: a field is lent by whoever holds it, and stays his.
+// Two references and no struct of both: `run_calls` makes a card of its own beside a field that its caller keeps.
 pub fn rig_tick<F: Field>(card: &mut Card, field: &mut F, lines: u32, inputs: u8) -> Levels
     ensures answer { result ≡ tick_levels (composed (F.Field.wired field.old) 8 lines) inputs card.old }
     ensures card { card.new ≡ tick_done (composed (F.Field.wired field.old) 8 lines) inputs card.old }

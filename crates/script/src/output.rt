@@ -62,12 +62,12 @@ fn hex_digit(d: u32) -> u8
     }
 }
 
-// Fills `out` with the lowest digits of the value. By index: of what an adapter of `iter_mut` writes a proof learns nothing.
+// Fills `out` with the lowest digits of the value.
 fn put_hex(out: &mut [u8], value: u32)
     ensures { out.new ≡ hex_bytes (length out.old) value }
 {
     let mut rest = value;
-    // By index, since of the elements that a reversed `iter_mut` lends a proof learns nothing.
+    // By index: of the elements that `iter_mut().rev()` lends a proof learns nothing (tried).
     for i in (0..out.len()).rev() {
         out[i] = hex_digit(rest % 16);
         rest /= 16;
@@ -75,7 +75,7 @@ fn put_hex(out: &mut [u8], value: u32)
 }
 
 /// The line that an accepted read writes.
-// Digit by digit and no `write!`: a run has no heap, and the line goes to the caller's bytes.
+// Digit by digit and no `write!`: three digits are promised of every offset, and `{:03X}` prints more of a larger one.
 pub(crate) fn read_line(offset: u32, value: u32) -> [u8; READ_LINE]
     ensures { result ≡ line_of_read offset value }
 {

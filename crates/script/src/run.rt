@@ -53,7 +53,7 @@ impl Runner {
     }
 
     // Runs one line.
-    fn line(&mut self, line: &[u8], output: &mut Output) -> Result<(), Fault>
+    fn run_line(&mut self, line: &[u8], output: &mut Output) -> Result<(), Fault>
         ensures { Ran (line_ran line.now self.old.card (length (left output.old))) result self.old self.new output.old output.new }
     {
         match parse_line(line)? {
@@ -78,7 +78,7 @@ impl Runner {
         }
         let mut reader = Reader::new(script);
         while let Some(line) = reader.line() {
-            self.line(line, output)?;
+            self.run_line(line, output)?;
             self.lines += 1;
         }
         Ok(())

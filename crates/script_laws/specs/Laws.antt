@@ -7,7 +7,7 @@ use Rattle.text.specs.Commands.{command_of}
 use Rattle.text.specs.declared.command.Command.{Command}
 use Rattle.text.specs.declared.command.Command.TheVariants.{Read, Write, Tick}
 use Rattle.script.specs.Output.{line_of_read}
-use Rattle.script.specs.Runs.{ticked, script_ran}
+use Rattle.script.specs.Runs.{ticked, script_ran, stop_code}
 use Rattle.script_laws.specs.Written.{Line, written, Fits, text_of, texts_of}
 
 -- lines that are written are the lines that are read, and so is a last line without its byte 10
@@ -38,11 +38,11 @@ AccessesPerformed =
     → length (written (texts_of cs)) ≤ 65536 → length bs ≤ room
     → script_ran (written (texts_of cs)) room ≡ record { lines = length cs; bytes = bs; stopped = None }
 
--- first lines of a script, and what follows them, run to the end: so are the first lines alone, with the first part of the output
+-- first lines of a script, and what follows them, run to the end, code 0: so are the first lines alone, with the first part of the output
 abbrev pub PrefixStands : Type 0
 PrefixStands =
     (ls : List (List ℕ)) (after : List ℕ) (room : ℕ) → AllByRecursion Line ls
-    → (script_ran (written ls ++ after) room).stopped ≡ None
-    → ((script_ran (written ls) room).stopped ≡ None)
+    → stop_code (script_ran (written ls ++ after) room).stopped ≡ 0
+    → (stop_code (script_ran (written ls) room).stopped ≡ 0)
     × ((script_ran (written ls) room).lines ≡ length ls)
     × ((more : List ℕ) × ((script_ran (written ls ++ after) room).bytes ≡ (script_ran (written ls) room).bytes ++ more))

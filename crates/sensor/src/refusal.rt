@@ -8,7 +8,7 @@ use thiserror::Error;
 #[derive(Clone, Copy, Debug, PartialEq, Eq, Error)]
 pub enum FieldRefusal {
     /// The channel is above 7, or it has no sensor.
-    #[error("there is no sensor at this channel, and none can be there above channel 7")]
+    #[error("the channel is above 7, or has no sensor")]
     Channel = 3,
     /// The position does not fit the sensor's data bits, or a constant of a new sensor is out of range.
     #[error("the position does not fit the data bits, or a constant is out of range")]

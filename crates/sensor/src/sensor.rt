@@ -5,7 +5,7 @@ ghost use Rattle.sensor.specs.Model.{Model, Sound, advanced, level_of, reset_to,
 use crate::refusal::FieldRefusal;
 
 /// A position sensor with a synchronous serial line.
-// two types implement it, as the design asks: a number kept, a Gray word kept; what both do alike is ShiftRegister's
+// Two types implement it, one for each kind that docs/DECISIONS.md names; what both do alike is ShiftRegister's.
 pub trait Sensor {
     /// What the sensor is, whatever it keeps.
     ghost meaning: { Self → Model };

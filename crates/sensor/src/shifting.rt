@@ -99,7 +99,8 @@ impl ShiftRegister {
         }
     }
 
-    /// One tick; the position is asked for where a frame begins, and in no other tick.
+    /// One tick; the position is asked for where a frame begins, and in no other tick. The clause `phase` holds of the
+    /// position that the closure gives.
     pub(crate) fn advance<P: FnOnce() -> u32 + Drop>(&mut self, clock: bool, position: P)
         requires { P.IsAlwaysCallable position }
         ensures constants { self.new.constants ≡ self.old.constants }

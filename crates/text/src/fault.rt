@@ -16,7 +16,7 @@ pub enum Fault {
     #[error("the script is too long")]
     Length,
     /// The kind of the line is unknown, or it has too few or too many fields.
-    #[error("the line is of no kind, or has another number of fields than its kind")]
+    #[error("the line has an unknown kind, or the wrong number of fields")]
     Form,
     /// A field is badly written.
     #[error("a field is badly written")]

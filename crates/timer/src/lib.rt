@@ -60,7 +60,7 @@ impl Setting for Base {
 }
 
 impl Base {
-    // The bases of this register, in a table of their own: nothing takes other clocks as well.
+    // Each register has clocks of its own, so there is no one table of them.
     fn ticks(self) -> u32
         ensures { result ≡ base_ticks self }
     {

@@ -32,7 +32,7 @@ impl Channel {
     fn become_counter(&mut self)
         ensures { self.new ≡ became_counter self.old }
     {
-        if matches!(self.mode, Mode::Counter) {
+        if self.in_counter_mode() {
             return;
         }
         self.depart();
@@ -51,7 +51,7 @@ impl Channel {
     }
 
     /// MODE as written; the mode that the channel has already is no change.
-    // The four codes are told apart here alone: a channel in SSI mode keeps its phase, so no conversion gives a mode.
+    // MODE's codes as numbers, here and in `mode_word`: a channel in SSI mode keeps its phase, so no conversion gives a mode.
     pub(super) fn write_mode(&mut self, code: u32)
         ensures { self.new ≡ mode_written code self.old }
     {

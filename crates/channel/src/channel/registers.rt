@@ -9,7 +9,7 @@ use filter::debounce::Debounce;
 use refusal::Refusal;
 
 impl Channel {
-    fn in_counter_mode(&self) -> bool
+    pub(super) fn in_counter_mode(&self) -> bool
         ensures { result ≡ is_counter_mode self.now }
     {
         matches!(self.mode, Mode::Counter)

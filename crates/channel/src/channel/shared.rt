@@ -21,6 +21,7 @@ fn enable_pair(low: &mut Interrupt, high: &mut Interrupt, word: u32, k: u32)
 }
 
 /// Acknowledges two interrupts by the same bits.
+// Beside `enable_pair` and not with it in one: what they do to an interrupt is another act.
 fn acknowledge_pair(low: &mut Interrupt, high: &mut Interrupt, word: u32, k: u32)
     requires { k < 8 }
     ensures low { low.new ≡ acknowledged (word_flag word k) low.old }
@@ -42,14 +43,14 @@ impl Channel {
     fn load(&mut self, one: bool)
         ensures { self.new ≡ loaded_by one self.old }
     {
-        if one && matches!(self.mode, Mode::Counter) {
+        if one && self.in_counter_mode() {
             let matched = self.counter.load_preload();
             self.valid.raise(matched);
         }
     }
 
     /// What a write of a shared register asks of the channel at place `k`.
-    // A number and no type for a place: only the table's loops make it, and a type would be made by a check there.
+    // A number and no type for a place: only the table's loops make it, from an index, and that type would ask the same there.
     #[tactic(auto, unfolding(crate::specs::Shares::performed))]
     pub fn perform(&mut self, act: Act, k: u32)
         requires { k < 8 }

@@ -1,5 +1,6 @@
 //! What a tick does to a channel.
 ghost use Rattle.std.specs.Prelude.{◌≡◌};
+ghost use Rattle.channel.specs.Lines.{levels_before};
 ghost use Rattle.channel.specs.Ticks.{channel_ticked, counted, finished, new_channel, raised_both, requested, ssi_worked, timer_requested, transmitted, waits, worked};
 
 use super::Channel;
@@ -77,20 +78,20 @@ impl Channel {
         matches!(self.mode, Mode::Ssi(Phase::Waiting))
     }
 
-    fn count(&mut self, change: Change)
-        ensures { self.new ≡ counted change.before change.after self.old }
+    /// Counter Mode, with the levels after a tick, and with those before it where they may have changed.
+    fn count(&mut self, former: Option<Levels>, after: Levels)
+        ensures { self.new ≡ counted (levels_before former after) after self.old }
     {
-        let causes = self.counter.tick(change);
-        self.raise(causes.matched, causes.control);
-    }
-
-    /// Counter Mode in a tick that left the levels as they were.
-    // `count` gives the same; this short way stays beside it for speed.
-    fn count_at_rest(&mut self, levels: Levels)
-        ensures { self.new ≡ counted levels levels self.old }
-    {
-        let matched = self.counter.rest(levels);
-        self.valid.raise(matched);
+        match former {
+            Some(before) => {
+                let causes = self.counter.tick(Change { before, after });
+                self.raise(causes.matched, causes.control);
+            }
+            None => {
+                let matched = self.counter.rest(after);
+                self.valid.raise(matched);
+            }
+        }
     }
 
     /// The controller's tick, with the filtered data level.
@@ -115,26 +116,14 @@ impl Channel {
         }
     }
 
-    /// The working part's tick, with the levels before it and after it.
-    fn work(&mut self, change: Change, expired: bool)
-        ensures { self.new ≡ worked change.before change.after expired self.old }
+    /// The working part's tick, with the levels after it, and with those before it where they may have changed.
+    fn work(&mut self, former: Option<Levels>, after: Levels, expired: bool)
+        ensures { self.new ≡ worked (levels_before former after) after expired self.old }
     {
         match self.mode {
             Mode::Off(_) => {}
-            Mode::Counter => self.count(change),
-            Mode::Ssi(_) => self.work_ssi(change.after.b, expired),
-        }
-    }
-
-    /// The working part's tick where it left the levels as they were.
-    // `work` gives the same; this short way stays beside it for speed, since almost every tick is such a one.
-    fn work_at_rest(&mut self, levels: Levels, expired: bool)
-        ensures { self.new ≡ worked levels levels expired self.old }
-    {
-        match self.mode {
-            Mode::Off(_) => {}
-            Mode::Counter => self.count_at_rest(levels),
-            Mode::Ssi(_) => self.work_ssi(levels.b, expired),
+            Mode::Counter => self.count(former, after),
+            Mode::Ssi(_) => self.work_ssi(after.b, expired),
         }
     }
 
@@ -145,9 +134,6 @@ impl Channel {
         let former = self.lines.tick(lines);
         self.input.tick(input);
         let after = self.lines.levels();
-        match former {
-            Some(before) => self.work(Change { before, after }, expired),
-            None => self.work_at_rest(after, expired),
-        }
+        self.work(former, after, expired);
     }
 }

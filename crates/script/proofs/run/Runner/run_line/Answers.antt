@@ -3,7 +3,7 @@ use Rattle.card.specs.Calls.{write_done, card_after_write}
 use Rattle.script.specs.Cursor.{left}
 use Rattle.script.specs.Runs.{fitting, write_ran, ticked, command_ran}
 use Rattle.script.proofs.Steps.{ran_quiet, line_as, fits_none, exit_is, accepted_err, accepted_ok}
-use Rattle.script.proofs.run.Runner.line.Goals as goal
+use Rattle.script.proofs.run.Runner.run_line.Goals as goal
 
 pub returns-in_err-offset : goal.returns-in_err-offset
 returns-in_err-offset c =
