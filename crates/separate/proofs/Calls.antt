@@ -1,7 +1,8 @@
 -- Calls one by one: where the register of an access stands, and what the call leaves and shows of a channel.
-use Rattle.std.proofs.Common.{◌≡◌, ℕ, ◌<◌, ◌≤◌, Bool, true, false, cond, ◌&&◌, ◌||◌, eqb, ltb, leb, List, length, get_or, Ok, Err, Result, sym, refl, ap, ◌∙◌, subst, ap₂, zero-add, arith}
+use Rattle.std.proofs.Common.{◌≡◌, ℕ, ◌<◌, Bool, true, false, cond, ◌&&◌, ◌||◌, eqb, List, length, get_or, Ok, Err, Result, sym, refl, ap, ◌∙◌, subst, ap₂, zero-add, arith}
 use mathlib.Core.Path.{fun_ext}
-use Rattle.std.proofs.lemmas.Bool.{and_parts, eqb-false, eqb-true, leb-true, ltb-true, ne_eqb, or_parts}
+use Rattle.std.proofs.lemmas.Bool.{eqb-false, eqb-true, ne_eqb, or_parts}
+use Rattle.std.proofs.lemmas.Bool.Decides.{nat_tests}
 use Rattle.refusal.specs.declared.Refusal.{Refusal}
 use Rattle.refusal.specs.declared.Refusal.TheVariants.{Offset}
 use Rattle.bits.specs.Words.{word_flag}
@@ -17,14 +18,13 @@ use Rattle.table.proofs.Loops.{get_d_changed, length_changed}
 use Rattle.card.specs.declared.Card.{Card}
 use Rattle.card.specs.declared.shared.Shared.{Shared}
 use Rattle.card.specs.Calls.{Got, accepted, card_after_read, card_after_write, channels_ticked, given, read_done, tick_done, tick_levels, value_of, write_done}
-use Rattle.card.specs.Records.{blank, channel_of, with_channel}
-use Rattle.card.specs.Registers.{channel_at, edges_read, in_channels, in_snapshots, interrupts_read, offset_checked, place_at, register_read, register_set, register_value, setting_checked, snapshot_at}
+use Rattle.card.specs.Records.{blank, channel_of}
+use Rattle.card.specs.Registers.{channel_at, in_channels, in_snapshots, offset_checked, place_at, register_read, register_set, register_value, setting_checked, snapshot_at}
 use Rattle.card.specs.Shared.{expiry, shared_ticked}
-use Rattle.card.specs.SharedRegisters.{shared_written}
 use Rattle.card.specs.Words.{register_word}
 use Rattle.separate.specs.Separation.{SameFor, bits, bits_seen, concerns, levels, named_for_others, nowhere, tells_of_all, word_seen}
 use Rattle.separate.proofs.Words.{word_same}
-use Rattle.separate.proofs.Same.{Same, Sound, same_acts, same_as, same_cond, same_if, same_other, same_own, same_self, same_shared, same_table}
+use Rattle.separate.proofs.Same.{Same, Sound, same_acts, same_cond, same_if, same_other, same_own, same_self, same_shared, same_table}
 use Rattle.separate.proofs.Shown.{clocks_same, outputs_same, register_same}
 use Rattle.separate.proofs.Writes.{clears_same, same_acknowledged, same_triggered, same_write}
 
@@ -83,7 +83,7 @@ pub here : (k o : ℕ) → concerns k o ≡ true → Here k o
 here k o e = go (nowhere o) (in_channels o) (in_snapshots o) refl refl e
   where
     go : (a i m : Bool) → in_channels o ≡ i → in_snapshots o ≡ m → cond a false (cond i (eqb (channel_at o) k) (cond m (eqb (snapshot_at o) k) true)) ≡ true → Here k o
-    go true i m p q e = let z : ◌≡◌ {A = ℕ} 0 1 = cc in absurd (omega arith)
+    go true i m p q e = absurd cc
     go false true m p q e = own p (eqb-true (channel_at o) k e)
     go false false true p q e = snapshot p q (eqb-true (snapshot_at o) k e)
     go false false false p q e = shared p q
@@ -95,47 +95,33 @@ away k o e = go (nowhere o) (in_channels o) (in_snapshots o) refl refl refl e
     go true i m n p q e = nothing_there n
     go false true m n p q e = other p (eqb-false (channel_at o) k e)
     go false false true n p q e = other_snapshot p q (eqb-false (snapshot_at o) k e)
-    go false false false n p q e = let z : ◌≡◌ {A = ℕ} 0 1 = cc in absurd (omega arith)
+    go false false false n p q e = absurd cc
 
-above_status : (o : ℕ) → in_snapshots o ≡ true → (400 ≤ o) × (o < 432)
-above_status o e = let p = and_parts (leb 400 o) (ltb o 432) e in (leb-true 400 o p.0, ltb-true o 432 p.1)
+-- an offset in a span is none outside it
+off : (span : ℕ → Bool) (o n : ℕ) → span o ≡ true → span n ≡ false → eqb o n ≡ false
+off span o n p q = ne_eqb o n (λ e. cc (ap span e))
 
 -- reads, by place
-read_own : (o : ℕ) (c : Card) → in_channels o ≡ true → register_read o c ≡ with_channel (channel_at o) (register_taken (place_at o) (channel_of (channel_at o) c)) c
-read_own o c e = rw e refl
-
-abbrev snapshot_read : ℕ → Card → Channel
-snapshot_read j c = with_snapshot (after_reading (channel_of j c).snapshot) (channel_of j c)
-
-read_snapshot : (o : ℕ) (c : Card) → in_channels o ≡ false → in_snapshots o ≡ true → register_read o c ≡ with_channel (snapshot_at o) (snapshot_read (snapshot_at o) c) c
-read_snapshot o c e m =
-    let p = above_status o m in
-    rw (e, ne_eqb o 392 (λ q. omega arith), ne_eqb o 396 (λ q. omega arith), m) refl
-
-read_shared : (o : ℕ) (c : Card) → in_channels o ≡ false → in_snapshots o ≡ false → register_read o c ≡ cond (eqb o 392) (interrupts_read c) (cond (eqb o 396) (edges_read c) c)
-read_shared o c e m = rw (e, m) refl
-
 own_taken : {k : ℕ} {c d : Card} (j : ℕ) → j ≡ k → Same k c d → channel_of j c ≡ channel_of j d
-own_taken {k} {c} {d} j e s = ap (λ i. channel_of i c) e ∙ s.channel ∙ sym (ap (λ i. channel_of i d) e)
+own_taken j e s = rw e s.channel
+
+abbrev snapshot_read : Channel → Channel
+snapshot_read x = with_snapshot (after_reading x.snapshot) x
 
 same_register_read : {k : ℕ} {c d : Card} (o : ℕ) → k < 8 → Here k o → Same k c d → Same k (register_read o c) (register_read o d)
-same_register_read {k} {c} {d} o h (own e p) s = same_as (register_read o c) (register_read o d) (read_own o c e) (read_own o d e)
-    (same_own (channel_at o) (register_taken (place_at o) (channel_of (channel_at o) c)) (register_taken (place_at o) (channel_of (channel_at o) d)) h p
-    (ap (register_taken (place_at o)) (own_taken (channel_at o) p s)) s)
-same_register_read {k} {c} {d} o h (snapshot e m p) s = same_as (register_read o c) (register_read o d) (read_snapshot o c e m) (read_snapshot o d e m)
-    (same_own (snapshot_at o) (snapshot_read (snapshot_at o) c) (snapshot_read (snapshot_at o) d) h p
-    (ap (λ (x : Channel). with_snapshot (after_reading x.snapshot) x) (own_taken (snapshot_at o) p s)) s)
-same_register_read {k} {c} {d} o h (shared e m) s = same_as (register_read o c) (register_read o d) (read_shared o c e m) (read_shared o d e m)
-    (same_if (eqb o 392) (λ t. same_cond c.shared.clear_on_read d.shared.clear_on_read (clears_same s) (same_acknowledged 4294967295 4294967295 h (λ b n. refl) s) s) (
+same_register_read o h (own e p) s = rw e (same_own (channel_at o) _ _ h p (ap (register_taken (place_at o)) (own_taken (channel_at o) p s)) s)
+same_register_read o h (snapshot e m p) s = rw (e, off in_snapshots o 392 m refl, off in_snapshots o 396 m refl, m)
+    (same_own (snapshot_at o) _ _ h p (ap snapshot_read (own_taken (snapshot_at o) p s)) s)
+same_register_read {c = c} {d = d} o h (shared e m) s = rw (e, m) (
+    same_if (eqb o 392) (λ t. same_cond c.shared.clear_on_read d.shared.clear_on_read (clears_same s) (same_acknowledged 4294967295 4294967295 h (λ b n. refl) s) s) (
     same_if (eqb o 396) (λ t. same_cond c.shared.clear_on_read d.shared.clear_on_read (clears_same s)
     (same_acts (AcknowledgeEdges 4294967295) (AcknowledgeEdges 4294967295) h (λ x. refl) s) s) s))
 
 left_register_read : {k : ℕ} (c : Card) (o : ℕ) → Sound c → Away k o → nowhere o ≡ false → Same k (register_read o c) c
-left_register_read c o s (nothing_there e) n = let z : ◌≡◌ {A = ℕ} 0 1 = cc in absurd (omega arith)
-left_register_read c o s (other e p) n = same_as (register_read o c) c (read_own o c e) refl
-    (same_other c (channel_at o) (register_taken (place_at o) (channel_of (channel_at o) c)) p s)
-left_register_read c o s (other_snapshot e m p) n = same_as (register_read o c) c (read_snapshot o c e m) refl
-    (same_other c (snapshot_at o) (snapshot_read (snapshot_at o) c) p s)
+left_register_read c o s (nothing_there e) n = absurd cc
+left_register_read c o s (other e p) n = rw e (same_other c (channel_at o) (register_taken (place_at o) (channel_of (channel_at o) c)) p s)
+left_register_read c o s (other_snapshot e m p) n = rw (e, off in_snapshots o 392 m refl, off in_snapshots o 396 m refl, m)
+    (same_other c (snapshot_at o) (snapshot_read (channel_of (snapshot_at o) c)) p s)
 
 after_read : {k : ℕ} {c d : Card} (r : Result (Unit {0}) Refusal) (x y : Got) → Same k c d → Same k x.card y.card
     → Same k (card_after_read c (given r (Ok x))) (card_after_read d (given r (Ok y)))
@@ -163,22 +149,10 @@ bits_same k o v w e = ap bits (fun_ext (λ b. go b (named_for_others k o b || te
     go b true q = refl
     go b false q = let p = or_parts (named_for_others k o b) (tells_of_all o b) q in e b p.0 p.1
 
-value_own : (o : ℕ) (c : Card) → in_channels o ≡ true → register_value o c ≡ register_shown (place_at o) (channel_of (channel_at o) c)
-value_own o c e = rw e refl
-
-value_snapshot : (o : ℕ) (c : Card) → in_channels o ≡ false → in_snapshots o ≡ true → register_value o c ≡ (channel_of (snapshot_at o) c).snapshot.word
-value_snapshot o c e m = rw (e, m) refl
-
-value_shared : (o : ℕ) (c : Card) → in_channels o ≡ false → in_snapshots o ≡ false → register_value o c ≡ register_word o c
-value_shared o c e m = rw (e, m) refl
-
 value_seen : {k : ℕ} {c d : Card} (o : ℕ) → k < 8 → Here k o → Same k c d → bits (bits_seen k o (register_value o c)) ≡ bits (bits_seen k o (register_value o d))
-value_seen {k} {c} {d} o h (own e p) s = ap (λ v. bits (bits_seen k o v))
-    (value_own o c e ∙ ap (register_shown (place_at o)) (own_taken (channel_at o) p s) ∙ sym (value_own o d e))
-value_seen {k} {c} {d} o h (snapshot e m p) s = ap (λ v. bits (bits_seen k o v))
-    (value_snapshot o c e m ∙ ap (λ (x : Channel). x.snapshot.word) (own_taken (snapshot_at o) p s) ∙ sym (value_snapshot o d e m))
-value_seen {k} {c} {d} o h (shared e m) s = bits_same k o (register_value o c) (register_value o d) (λ b n t.
-    ap (λ v. word_flag v b) (value_shared o c e m) ∙ register_same o b h s n t ∙ sym (ap (λ v. word_flag v b) (value_shared o d e m)))
+value_seen {k} o h (own e p) s = rw e (ap (λ (x : Channel). bits (bits_seen k o (register_shown (place_at o) x))) (own_taken (channel_at o) p s))
+value_seen {k} o h (snapshot e m p) s = rw (e, m) (ap (λ (x : Channel). bits (bits_seen k o x.snapshot.word)) (own_taken (snapshot_at o) p s))
+value_seen {k} {c} {d} o h (shared e m) s = rw (e, m) (bits_same k o (register_word o c) (register_word o d) (λ b n t. register_same o b h s n t))
 
 word_given : (k o : ℕ) (r : Result (Unit {0}) Refusal) (x y : Got) → bits (bits_seen k o x.value) ≡ bits (bits_seen k o y.value)
     → word_seen k o (value_of (given r (Ok x))) ≡ word_seen k o (value_of (given r (Ok y)))
@@ -190,67 +164,26 @@ unfolding read_done
 read_seen {k} {c} {d} o h p s = word_given k o (offset_checked o) (record { value = register_value o c; card = register_read o c }) (record { value = register_value o d; card = register_read o d })
     (value_seen o h p s)
 
--- writes, by place
-write_own : (o v : ℕ) (c : Card) → in_channels o ≡ true → register_set o v c ≡ with_channel (channel_at o) (register_written (place_at o) v (channel_of (channel_at o) c)) c
-write_own o v c e = rw e refl
-
-write_shared : (o v : ℕ) (c : Card) → in_channels o ≡ false → register_set o v c ≡ shared_written o v c
-write_shared o v c e = rw e refl
-
--- an MCR Data Register ignores writes
+-- writes, by place: an MCR Data Register ignores them
 write_snapshot : (o v : ℕ) (c : Card) → in_channels o ≡ false → in_snapshots o ≡ true → register_set o v c ≡ c
-write_snapshot o v c e m =
-    let p = above_status o m in
-    rw (
-      e,
-      ne_eqb o 0 (λ q. omega arith),
-      ne_eqb o 4 (λ q. omega arith),
-      ne_eqb o 340 (λ q. omega arith),
-      ne_eqb o 352 (λ q. omega arith),
-      ne_eqb o 356 (λ q. omega arith),
-      ne_eqb o 368 (λ q. omega arith),
-      ne_eqb o 372 (λ q. omega arith),
-      ne_eqb o 384 (λ q. omega arith),
-      ne_eqb o 388 (λ q. omega arith),
-      ne_eqb o 392 (λ q. omega arith),
-      ne_eqb o 396 (λ q. omega arith),
-      ne_eqb o 496 (λ q. omega arith),
-      ne_eqb o 504 (λ q. omega arith),
-    ) refl
+write_snapshot o v c e m = grind (arith, nat_tests)
 
 -- where no bit is named for others, the words are equal
 quiet_span : (k o b : ℕ) → in_channels o ≡ true → named_for_others k o b ≡ false
 quiet_span k o b e =
-    let p = and_parts (leb 16 o) (ltb o 336) e in
-    let l : 16 ≤ o = leb-true 16 o p.0 in
-    let m : o < 336 = ltb-true o 336 p.1 in
-    rw (
-      ne_eqb o 0 (λ q. omega arith),
-      ne_eqb o 4 (λ q. omega arith),
-      ne_eqb o 336 (λ q. omega arith),
-      ne_eqb o 340 (λ q. omega arith),
-      ne_eqb o 352 (λ q. omega arith),
-      ne_eqb o 356 (λ q. omega arith),
-      ne_eqb o 360 (λ q. omega arith),
-      ne_eqb o 384 (λ q. omega arith),
-      ne_eqb o 388 (λ q. omega arith),
-      ne_eqb o 392 (λ q. omega arith),
-      ne_eqb o 396 (λ q. omega arith),
-      ne_eqb o 496 (λ q. omega arith),
-    ) refl
+    let n = λ (i : ℕ) (q : in_channels i ≡ false). off in_channels o i e q in
+    rw (n 0 refl, n 4 refl, n 336 refl, n 340 refl, n 352 refl, n 356 refl, n 360 refl, n 384 refl, n 388 refl, n 392 refl, n 396 refl, n 496 refl) refl
 
 same_register_set : {k : ℕ} {c d : Card} (o v w : ℕ) → k < 8 → Here k o → SameFor k o v w → Same k c d → Same k (register_set o v c) (register_set o w d)
-same_register_set {k} {c} {d} o v w h (own e p) f s = same_as (register_set o v c) (register_set o w d) (write_own o v c e) (write_own o w d e)
-    (same_own (channel_at o) (register_written (place_at o) v (channel_of (channel_at o) c)) (register_written (place_at o) w (channel_of (channel_at o) d)) h p
+same_register_set {k} o v w h (own e p) f s = rw e (same_own (channel_at o) _ _ h p
     (ap₂ (λ (u : ℕ) (x : Channel). register_written (place_at o) u x) (word_same v w (λ b. f b (quiet_span k o b e))) (own_taken (channel_at o) p s)) s)
-same_register_set {k} {c} {d} o v w h (snapshot e m p) f s = same_as (register_set o v c) (register_set o w d) (write_snapshot o v c e m) (write_snapshot o w d e m) s
-same_register_set {k} {c} {d} o v w h (shared e m) f s = same_as (register_set o v c) (register_set o w d) (write_shared o v c e) (write_shared o w d e) (same_write o v w h f s)
+same_register_set o v w h (snapshot e m p) f s = rw e (same_write o v w h f s)
+same_register_set o v w h (shared e m) f s = rw e (same_write o v w h f s)
 
 left_register_set : {k : ℕ} (c : Card) (o v : ℕ) → Sound c → Away k o → nowhere o ≡ false → Same k (register_set o v c) c
-left_register_set c o v s (nothing_there e) n = let z : ◌≡◌ {A = ℕ} 0 1 = cc in absurd (omega arith)
-left_register_set c o v s (other e p) n = same_as (register_set o v c) c (write_own o v c e) refl
-    (same_other c (channel_at o) (register_written (place_at o) v (channel_of (channel_at o) c)) p s)
-left_register_set c o v s (other_snapshot e m p) n = same_as (register_set o v c) c (write_snapshot o v c e m) refl (same_self s)
+left_register_set c o v s (nothing_there e) n = absurd cc
+left_register_set c o v s (other e p) n = rw e (same_other c (channel_at o) (register_written (place_at o) v (channel_of (channel_at o) c)) p s)
+left_register_set {k} c o v s (other_snapshot e m p) n = subst (λ (x : Card). Same k x c) (sym (write_snapshot o v c e m)) (same_self s)
 
 -- the check of what a write sets looks at the word alone
 setting_same : (k o v w : ℕ) → Here k o → SameFor k o v w → setting_checked o v ≡ setting_checked o w
@@ -258,20 +191,17 @@ setting_same k o v w (own e p) f = ap (setting_checked o) (word_same v w (λ b. 
 setting_same k o v w (snapshot e m p) f = rw e refl
 setting_same k o v w (shared e m) f = rw e refl
 
-after_write : {k : ℕ} {c d : Card} (r p q : Result (Unit {0}) Refusal) (x y : Card) → p ≡ q → Same k c d → Same k x y
-    → Same k (card_after_write c (given r (given p (Ok x)))) (card_after_write d (given r (given q (Ok y))))
-after_write {k} {c} {d} r p q x y e s t = subst (λ z. Same k (card_after_write c (given r (given p (Ok x)))) (card_after_write d (given r (given z (Ok y))))) e (go r p)
-  where
-    go : (r p : Result (Unit {0}) Refusal) → Same k (card_after_write c (given r (given p (Ok x)))) (card_after_write d (given r (given p (Ok y))))
-    go (Ok u) (Ok z) = t
-    go (Ok u) (Err f) = s
-    go (Err f) p = s
+after_write : {k : ℕ} {c d : Card} (r p : Result (Unit {0}) Refusal) (x y : Card) → Same k c d → Same k x y
+    → Same k (card_after_write c (given r (given p (Ok x)))) (card_after_write d (given r (given p (Ok y))))
+after_write (Ok u) (Ok z) x y s t = t
+after_write (Ok u) (Err f) x y s t = s
+after_write (Err f) p x y s t = s
 
 pub same_written : {k : ℕ} {c d : Card} (o v w : ℕ) → k < 8 → Here k o → SameFor k o v w → Same k c d
     → Same k (card_after_write c (write_done c o v)) (card_after_write d (write_done d o w))
 unfolding write_done
-same_written {k} {c} {d} o v w h p f s = after_write (offset_checked o) (setting_checked o v) (setting_checked o w) (register_set o v c) (register_set o w d)
-    (setting_same k o v w p f) s (same_register_set o v w h p f s)
+same_written {k} {c} {d} o v w h p f s =
+    rw (← setting_same k o v w p f) (after_write (offset_checked o) (setting_checked o v) (register_set o v c) (register_set o w d) s (same_register_set o v w h p f s))
 
 pub left_written : {k : ℕ} (c : Card) (o v : ℕ) → Sound c → Away k o → Same k (card_after_write c (write_done c o v)) c
 unfolding write_done
@@ -283,14 +213,11 @@ left_written {k} c o v s p = go (nowhere o) (setting_checked o v) refl
     go false (Err f) n = same_self s
 
 -- what a write answers
-accepted_same : (r p q : Result (Unit {0}) Refusal) (x y : Card) → p ≡ q → accepted (given r (given p (Ok x))) ≡ accepted (given r (given q (Ok y)))
-accepted_same r p q x y e = go r p ∙ ap (λ z. accepted (given r (given z (Ok y)))) e
-  where
-    go : (r p : Result (Unit {0}) Refusal) → accepted (given r (given p (Ok x))) ≡ accepted (given r (given p (Ok y)))
-    go (Ok u) (Ok z) = refl
-    go (Ok u) (Err f) = refl
-    go (Err f) p = refl
+accepted_same : (r p : Result (Unit {0}) Refusal) (x y : Card) → accepted (given r (given p (Ok x))) ≡ accepted (given r (given p (Ok y)))
+accepted_same (Ok u) (Ok z) x y = refl
+accepted_same (Ok u) (Err f) x y = refl
+accepted_same (Err f) p x y = refl
 
 pub write_seen : (k o v w : ℕ) (c d : Card) → Here k o → SameFor k o v w → accepted (write_done c o v) ≡ accepted (write_done d o w)
 unfolding write_done
-write_seen k o v w c d p f = accepted_same (offset_checked o) (setting_checked o v) (setting_checked o w) (register_set o v c) (register_set o w d) (setting_same k o v w p f)
+write_seen k o v w c d p f = rw (← setting_same k o v w p f) (accepted_same (offset_checked o) (setting_checked o v) (register_set o v c) (register_set o w d))
