@@ -1,7 +1,6 @@
 -- Lists of calls that are alike for a channel give it the same answers.
-use Rattle.std.proofs.Common.{◌≡◌, ℕ, ◌+◌, ◌*◌, ◌<◌, Bool, cond, List, ◌∷◌, sym, refl, ap, ◌∙◌, ap₂, arith}
+use Rattle.std.proofs.Common.{◌≡◌, ℕ, ◌+◌, ◌*◌, ◌<◌, cond, List, ◌∷◌, sym, refl, ap, ◌∙◌, ap₂, arith}
 use Rattle.bits.specs.Words.{word_flag}
-use Rattle.counter_count.specs.declared.levels.Levels.{Levels as Lines}
 use Rattle.table.specs.Tables.{line_levels_at}
 use Rattle.card.specs.declared.Card.{Card}
 use Rattle.card.specs.Calls.{powered_on}
@@ -13,12 +12,8 @@ use Rattle.separate.specs.Separation.{Alike, AllAlike, Elsewhere, Separate, conc
 use Rattle.separate.proofs.Calls.{away, here, left_read, left_written, read_seen, same_read, same_tick, same_written, tick_seen_lem, write_seen}
 use Rattle.separate.proofs.Same.{Same, Sound, same_self, same_sym, same_trans}
 
--- a channel's lines as one
-abbrev lines_of : Bool → Bool → Bool → Lines
-lines_of a b i = record { a = a; b = b; i = i }
-
 lines_same : (k l m : ℕ) → word_flag l (3 * k) ≡ word_flag m (3 * k) → word_flag l (3 * k + 1) ≡ word_flag m (3 * k + 1) → word_flag l (3 * k + 2) ≡ word_flag m (3 * k + 2) → line_levels_at l k ≡ line_levels_at m k
-lines_same k l m p q r = ap₂ (λ a b. lines_of a b (word_flag l (3 * k + 2))) p q ∙ ap (lines_of (word_flag m (3 * k)) (word_flag m (3 * k + 1))) r
+lines_same k l m p q r = rw (p, q, r) refl
 
 -- a call that is none of the channel's leaves its part of the card, and tells it nothing
 left_alone : {k : ℕ} (c : Card) (x : Call) → Sound c → Elsewhere k x → Same k (step c x) c
@@ -28,8 +23,8 @@ left_alone {k} c (Write o v) s e = left_written c o v s (away k o e)
 
 tells_nothing : (k : ℕ) (x : Call) (a : Answer) → Elsewhere k x → seen k x a ≡ nothing
 tells_nothing k (Tick l i) a e = absurd e
-tells_nothing k (Read o) a e = rw e refl
-tells_nothing k (Write o v) a e = rw e refl
+tells_nothing k (Read o) a e = rw e
+tells_nothing k (Write o v) a e = rw e
 
 step_same : {k : ℕ} {x y : Call} {c d : Card} → k < 8 → Alike k x y → Same k c d → Same k (step c x) (step d y)
 step_same {k} h (ticks {l} {m} {i} {j} p q r t) s = same_tick l m i j h (lines_same k l m p q r) t s

@@ -1,5 +1,5 @@
 -- Two cards that are the same for one channel, and what keeps them so.
-use Rattle.std.proofs.Common.{◌≡◌, ℕ, ◌<◌, Bool, true, false, cond, ltb, List, length, get_or, set, sym, refl, ap, ◌∙◌, subst, zero-add, arith, length-set, get_or-set_other, get_or-set_same}
+use Rattle.std.proofs.Common.{◌≡◌, ℕ, ◌<◌, Bool, true, false, cond, ltb, List, length, get_or, set, sym, refl, ap, ◌∙◌, zero-add, arith, length-set, get_or-set_other, get_or-set_same}
 use Rattle.channel.specs.declared.act.Act.{Act}
 use Rattle.channel.specs.declared.channel.Channel.{Channel}
 use Rattle.channel.specs.Shares.{performed}
@@ -45,20 +45,13 @@ same_trans s t = record { left = s.left; right = t.right; channel = s.channel �
 pub same_self : {k : ℕ} {c : Card} → Sound c → Same k c c
 same_self s = record { left = s; right = s; channel = refl; shared = refl }
 
--- cards that are equal to such cards
-pub same_as : {k : ℕ} {c d : Card} (c' d' : Card) → c' ≡ c → d' ≡ d → Same k c d → Same k c' d'
-same_as {k} {c} {d} c' d' p q s = subst (λ (x : Card). Same k x d') (sym p) (subst (λ (y : Card). Same k c y) (sym q) s)
-
 -- where a test decides
 pub same_if : {k : ℕ} {x y x' y' : Card} (b : Bool) → (b ≡ true → Same k x y) → Same k x' y' → Same k (cond b x x') (cond b y y')
 same_if true s t = s refl
 same_if false s t = t
 
 pub same_cond : {k : ℕ} {x y x' y' : Card} (b e : Bool) → b ≡ e → Same k x y → Same k x' y' → Same k (cond b x x') (cond e y y')
-same_cond true true p s t = s
-same_cond true false p s t = let z : ◌≡◌ {A = ℕ} 0 1 = cc in absurd (omega arith)
-same_cond false true p s t = let z : ◌≡◌ {A = ℕ} 0 1 = cc in absurd (omega arith)
-same_cond false false p s t = t
+same_cond b e q s t = rw (← q) (same_if b (λ _. s) t)
 
 -- another table, another shared part
 pub same_table : {k : ℕ} {c d : Card} (cs ds : List Channel) → length cs ≡ 8 → length ds ≡ 8 → get_or cs k blank ≡ get_or ds k blank
@@ -101,7 +94,7 @@ same_own {k} {c} {d} j x y h e p s = same_table (set c.channels j x) (set d.chan
     (placed c.channels x s.left.eight ∙ p ∙ sym (placed d.channels y s.right.eight)) s
   where
     placed : (cs : List Channel) (z : Channel) → length cs ≡ 8 → get_or (set cs j z) k blank ≡ z
-    placed cs z l = ap (λ i. get_or (set cs i z) k blank) e ∙ get_or-set_same cs k z blank (omega arith)
+    placed cs z l = rw e (get_or-set_same cs k z blank (omega arith))
 
 -- another channel's record is replaced
 pub same_other : {k : ℕ} (c : Card) (j : ℕ) (x : Channel) → (j ≡ k → ⊥) → Sound c → Same k (with_channel j x c) c

@@ -1,5 +1,5 @@
 -- The two lists of the example, computed.
-use Rattle.std.proofs.Common.{◌≡◌, ℕ, zero, suc, sym, refl, ◌∙◌, arith}
+use Rattle.std.proofs.Common.{zero, suc, sym, refl, ◌∙◌, arith}
 use Rattle.filter.specs.Filters.{samples_in, ticked}
 use Rattle.controller.specs.Phase.{phase_ticked}
 use Rattle.controller.specs.Registers.{completion, phase_requested, requested, ticked as ssi_ticked}
@@ -14,16 +14,12 @@ use Rattle.table.specs.Tables.{acted, gathered, table_ticked}
 use Rattle.card.specs.Calls.{powered_on, read_done, tick_done, tick_levels, write_done}
 use Rattle.separate.specs.Separation.{SameFor, elsewhere, more, none, reads, ticks, writes}
 use Rattle.separate.specs.Example.{AlikeForOne}
-use Rattle.separate.proofs.Words.{flag_above}
+use Rattle.separate.proofs.Words.{flag_high}
 
 -- the two words for Global Control differ in bit 0, which is MODE of channel 0
 modes_differ : SameFor 1 0 8 9
-modes_differ zero e = let z : ◌≡◌ {A = ℕ} 0 1 = cc in absurd (omega arith)
-modes_differ (suc zero) e = refl
-modes_differ (suc (suc zero)) e = refl
-modes_differ (suc (suc (suc zero))) e = refl
-modes_differ (suc (suc (suc (suc b)))) e =
-    flag_above 8 4 (suc (suc (suc (suc b)))) (omega arith) (omega arith) ∙ sym (flag_above 9 4 (suc (suc (suc (suc b)))) (omega arith) (omega arith))
+modes_differ zero e = absurd cc
+modes_differ (suc b) e = flag_high 0 4 1 (suc b) (omega arith) (omega arith) ∙ sym (flag_high 1 4 1 (suc b) (omega arith) (omega arith))
 
 pub alike_for_one : AlikeForOne
 unfolding samples_in ticked phase_ticked completion phase_requested requested ssi_ticked decoded advanced advance_outcome tick_causes counter_ticked control_answer control_written data_read data_word entered left status_shown register_shown register_taken register_written bit_of performed share_of channel_ticked acted gathered table_ticked powered_on read_done tick_done tick_levels write_done
