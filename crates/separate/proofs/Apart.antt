@@ -9,7 +9,7 @@ use Rattle.runs.specs.declared.Call.{Call}
 use Rattle.runs.specs.declared.Call.TheVariants.{Tick, Read, Write}
 use Rattle.runs.specs.Runs.{answer_to, answers, step}
 use Rattle.separate.specs.Separation.{Alike, AllAlike, Elsewhere, Separate, concerns, elsewhere, more, none, nothing, reads, seen, seen_all, ticks, writes, written}
-use Rattle.separate.proofs.Calls.{away, here, left_read, left_written, read_seen, same_read, same_tick, same_written, tick_seen_lem, write_seen}
+use Rattle.separate.proofs.Calls.{here, left_read, left_written, read_seen, same_read, same_tick, same_written, tick_seen_lem, write_seen}
 use Rattle.separate.proofs.Same.{Same, Sound, same_self, same_sym, same_trans}
 
 lines_same : (k l m : ℕ) → word_flag l (3 * k) ≡ word_flag m (3 * k) → word_flag l (3 * k + 1) ≡ word_flag m (3 * k + 1) → word_flag l (3 * k + 2) ≡ word_flag m (3 * k + 2) → line_levels_at l k ≡ line_levels_at m k
@@ -18,8 +18,8 @@ lines_same k l m p q r = rw (p, q, r) refl
 -- a call that is none of the channel's leaves its part of the card, and tells it nothing
 left_alone : {k : ℕ} (c : Card) (x : Call) → Sound c → Elsewhere k x → Same k (step c x) c
 left_alone c (Tick l i) s e = absurd e
-left_alone {k} c (Read o) s e = left_read c o s (away k o e)
-left_alone {k} c (Write o v) s e = left_written c o v s (away k o e)
+left_alone {k} c (Read o) s e = left_read c o s e
+left_alone {k} c (Write o v) s e = left_written c o v s e
 
 tells_nothing : (k : ℕ) (x : Call) (a : Answer) → Elsewhere k x → seen k x a ≡ nothing
 tells_nothing k (Tick l i) a e = absurd e

@@ -1,5 +1,5 @@
 -- Calls one by one: where the register of an access stands, and what the call leaves and shows of a channel.
-use Rattle.std.proofs.Common.{◌≡◌, ℕ, ◌<◌, Bool, true, false, cond, ◌&&◌, ◌||◌, eqb, List, length, get_or, Ok, Err, Result, sym, refl, ap, ◌∙◌, subst, ap₂, zero-add, arith}
+use Rattle.std.proofs.Common.{◌≡◌, ℕ, ◌<◌, Bool, true, false, cond, ◌&&◌, ◌||◌, eqb, Ok, Err, Result, sym, refl, ap, ◌∙◌, subst, ap₂, arith}
 use mathlib.Core.Path.{fun_ext}
 use Rattle.std.proofs.lemmas.Bool.{eqb-false, eqb-true, ne_eqb, or_parts}
 use Rattle.std.proofs.lemmas.Bool.Decides.{nat_tests}
@@ -14,43 +14,29 @@ use Rattle.channel.specs.Records.{with_snapshot}
 use Rattle.channel.specs.Registers.{register_shown, register_taken, register_written}
 use Rattle.channel.specs.Ticks.{channel_ticked}
 use Rattle.table.specs.Tables.{line_levels_at, table_ticked, tick_at}
-use Rattle.table.proofs.Loops.{get_d_changed, length_changed}
 use Rattle.card.specs.declared.Card.{Card}
 use Rattle.card.specs.declared.shared.Shared.{Shared}
 use Rattle.card.specs.Calls.{Got, accepted, card_after_read, card_after_write, channels_ticked, given, read_done, tick_done, tick_levels, value_of, write_done}
-use Rattle.card.specs.Records.{blank, channel_of}
+use Rattle.card.specs.Records.{channel_of}
 use Rattle.card.specs.Registers.{channel_at, in_channels, in_snapshots, offset_checked, place_at, register_read, register_set, register_value, setting_checked, snapshot_at}
 use Rattle.card.specs.Shared.{expiry, shared_ticked}
 use Rattle.card.specs.Words.{register_word}
 use Rattle.separate.specs.Separation.{SameFor, bits, bits_seen, concerns, levels, named_for_others, nowhere, tells_of_all, word_seen}
 use Rattle.separate.proofs.Words.{word_same}
-use Rattle.separate.proofs.Same.{Same, Sound, same_acts, same_cond, same_if, same_other, same_own, same_self, same_shared, same_table}
+use Rattle.separate.proofs.Same.{Same, Sound, same_acts, same_changed, same_cond, same_if, same_other, same_own, same_self, same_shared}
 use Rattle.separate.proofs.Shown.{clocks_same, outputs_same, register_same}
 use Rattle.separate.proofs.Writes.{clears_same, same_acknowledged, same_triggered, same_write}
 
 -- a tick
-ticked_at : (l i k : ℕ) (e : Bool) (cs : List Channel) → k < 8 → length cs ≡ 8
-    → get_or (table_ticked l i e cs) k blank ≡ channel_ticked (line_levels_at l k) (word_flag i k) e (get_or cs k blank)
-unfolding table_ticked
-ticked_at l i k e cs h p = get_d_changed (tick_at l i e) 0 8 k k cs blank h (omega arith) (zero-add k)
-
-length_ticked : (l i : ℕ) (e : Bool) (cs : List Channel) → length (table_ticked l i e cs) ≡ length cs
-unfolding table_ticked
-length_ticked l i e cs = length_changed (tick_at l i e) 0 8 cs
-
 expiry_same : {k : ℕ} {c d : Card} → Same k c d → expiry c.shared ≡ expiry d.shared
 expiry_same s = ap expiry s.shared
 
 same_channels : {k : ℕ} {c d : Card} (l m i j : ℕ) → k < 8 → line_levels_at l k ≡ line_levels_at m k → word_flag i k ≡ word_flag j k
     → Same k c d → Same k (channels_ticked l i c) (channels_ticked m j d)
-same_channels {k} {c} {d} l m i j h p q s =
-    let e : expiry c.shared ≡ expiry d.shared = expiry_same s in
-    same_table (table_ticked l i (expiry c.shared) c.channels) (table_ticked m j (expiry d.shared) d.channels)
-    (length_ticked l i (expiry c.shared) c.channels ∙ s.left.eight) (length_ticked m j (expiry d.shared) d.channels ∙ s.right.eight)
-    (ticked_at l i k (expiry c.shared) c.channels h s.left.eight
-    ∙ ap₂ (λ (x : Lines) (y : Bool). channel_ticked x y (expiry c.shared) (channel_of k c)) p q
-    ∙ ap₂ (λ (x : Bool) (y : Channel). channel_ticked (line_levels_at m k) (word_flag j k) x y) e s.channel
-    ∙ sym (ticked_at m j k (expiry d.shared) d.channels h s.right.eight))
+unfolding table_ticked
+same_channels {k} {c} {d} l m i j h p q s = same_changed (tick_at l i (expiry c.shared)) (tick_at m j (expiry d.shared)) h
+    (λ x. ap₂ (λ (y : Lines) (b : Bool). channel_ticked y b (expiry c.shared) x) p q
+    ∙ ap (λ b. channel_ticked (line_levels_at m k) (word_flag j k) b x) (expiry_same s))
     (same_shared (shared_ticked c.shared) (shared_ticked d.shared) s.left.time s.right.time (ap shared_ticked s.shared) s)
 
 pub same_tick : {k : ℕ} {c d : Card} (l m i j : ℕ) → k < 8 → line_levels_at l k ≡ line_levels_at m k → word_flag i k ≡ word_flag j k
@@ -68,14 +54,13 @@ tick_seen_lem {k} {c} {d} l m i j h p q s =
     let t : Same k (tick_done l i c) (tick_done m j d) = same_tick l m i j h p q s in
     ap₂ levels (clocks_same h t) (outputs_same h t)
 
--- where the register of an access stands: with channel k or shared, or else with no register or with another channel
+-- where the register of an access stands: with channel k or shared, or else with another channel
 pub data Here (k o : ℕ) : Type 0 where
   own : in_channels o ≡ true → channel_at o ≡ k → Here k o
   snapshot : in_channels o ≡ false → in_snapshots o ≡ true → snapshot_at o ≡ k → Here k o
   shared : in_channels o ≡ false → in_snapshots o ≡ false → Here k o
 
-pub data Away (k o : ℕ) : Type 0 where
-  nothing_there : nowhere o ≡ true → Away k o
+data Away (k o : ℕ) : Type 0 where
   other : in_channels o ≡ true → (channel_at o ≡ k → ⊥) → Away k o
   other_snapshot : in_channels o ≡ false → in_snapshots o ≡ true → (snapshot_at o ≡ k → ⊥) → Away k o
 
@@ -88,14 +73,13 @@ here k o e = go (nowhere o) (in_channels o) (in_snapshots o) refl refl e
     go false false true p q e = snapshot p q (eqb-true (snapshot_at o) k e)
     go false false false p q e = shared p q
 
-pub away : (k o : ℕ) → concerns k o ≡ false → Away k o
-away k o e = go (nowhere o) (in_channels o) (in_snapshots o) refl refl refl e
+away : (k o : ℕ) → concerns k o ≡ false → nowhere o ≡ false → Away k o
+away k o e n = go (in_channels o) (in_snapshots o) refl refl (rw n at e)
   where
-    go : (a i m : Bool) → nowhere o ≡ a → in_channels o ≡ i → in_snapshots o ≡ m → cond a false (cond i (eqb (channel_at o) k) (cond m (eqb (snapshot_at o) k) true)) ≡ false → Away k o
-    go true i m n p q e = nothing_there n
-    go false true m n p q e = other p (eqb-false (channel_at o) k e)
-    go false false true n p q e = other_snapshot p q (eqb-false (snapshot_at o) k e)
-    go false false false n p q e = absurd cc
+    go : (i m : Bool) → in_channels o ≡ i → in_snapshots o ≡ m → cond i (eqb (channel_at o) k) (cond m (eqb (snapshot_at o) k) true) ≡ false → Away k o
+    go true m p q e = other p (eqb-false (channel_at o) k e)
+    go false true p q e = other_snapshot p q (eqb-false (snapshot_at o) k e)
+    go false false p q e = absurd cc
 
 -- an offset in a span is none outside it
 off : (span : ℕ → Bool) (o n : ℕ) → span o ≡ true → span n ≡ false → eqb o n ≡ false
@@ -117,10 +101,9 @@ same_register_read {c = c} {d = d} o h (shared e m) s = rw (e, m) (
     same_if (eqb o 396) (λ t. same_cond c.shared.clear_on_read d.shared.clear_on_read (clears_same s)
     (same_acts (AcknowledgeEdges 4294967295) (AcknowledgeEdges 4294967295) h (λ x. refl) s) s) s))
 
-left_register_read : {k : ℕ} (c : Card) (o : ℕ) → Sound c → Away k o → nowhere o ≡ false → Same k (register_read o c) c
-left_register_read c o s (nothing_there e) n = absurd cc
-left_register_read c o s (other e p) n = rw e (same_other c (channel_at o) (register_taken (place_at o) (channel_of (channel_at o) c)) p s)
-left_register_read c o s (other_snapshot e m p) n = rw (e, off in_snapshots o 392 m refl, off in_snapshots o 396 m refl, m)
+left_register_read : {k : ℕ} (c : Card) (o : ℕ) → Sound c → Away k o → Same k (register_read o c) c
+left_register_read c o s (other e p) = rw e (same_other c (channel_at o) (register_taken (place_at o) (channel_of (channel_at o) c)) p s)
+left_register_read c o s (other_snapshot e m p) = rw (e, off in_snapshots o 392 m refl, off in_snapshots o 396 m refl, m)
     (same_other c (snapshot_at o) (snapshot_read (channel_of (snapshot_at o) c)) p s)
 
 after_read : {k : ℕ} {c d : Card} (r : Result (Unit {0}) Refusal) (x y : Got) → Same k c d → Same k x.card y.card
@@ -133,13 +116,13 @@ unfolding read_done
 same_read {k} {c} {d} o h p s = after_read (offset_checked o) (record { value = register_value o c; card = register_read o c }) (record { value = register_value o d; card = register_read o d })
     s (same_register_read o h p s)
 
-pub left_read : {k : ℕ} (c : Card) (o : ℕ) → Sound c → Away k o → Same k (card_after_read c (read_done c o)) c
+pub left_read : {k : ℕ} (c : Card) (o : ℕ) → Sound c → concerns k o ≡ false → Same k (card_after_read c (read_done c o)) c
 unfolding read_done
 left_read {k} c o s p = go (nowhere o) refl
   where
     go : (a : Bool) → nowhere o ≡ a → Same k (card_after_read c (given (cond a (Err Offset) (Ok tt)) (Ok (record { value = register_value o c; card = register_read o c })))) c
     go true n = same_self s
-    go false n = left_register_read c o s p n
+    go false n = left_register_read c o s (away k o p n)
 
 -- what a read shows
 bits_same : (k o v w : ℕ) → ((b : ℕ) → named_for_others k o b ≡ false → tells_of_all o b ≡ false → word_flag v b ≡ word_flag w b) → bits (bits_seen k o v) ≡ bits (bits_seen k o w)
@@ -180,10 +163,9 @@ same_register_set {k} o v w h (own e p) f s = rw e (same_own (channel_at o) _ _ 
 same_register_set o v w h (snapshot e m p) f s = rw e (same_write o v w h f s)
 same_register_set o v w h (shared e m) f s = rw e (same_write o v w h f s)
 
-left_register_set : {k : ℕ} (c : Card) (o v : ℕ) → Sound c → Away k o → nowhere o ≡ false → Same k (register_set o v c) c
-left_register_set c o v s (nothing_there e) n = absurd cc
-left_register_set c o v s (other e p) n = rw e (same_other c (channel_at o) (register_written (place_at o) v (channel_of (channel_at o) c)) p s)
-left_register_set {k} c o v s (other_snapshot e m p) n = subst (λ (x : Card). Same k x c) (sym (write_snapshot o v c e m)) (same_self s)
+left_register_set : {k : ℕ} (c : Card) (o v : ℕ) → Sound c → Away k o → Same k (register_set o v c) c
+left_register_set c o v s (other e p) = rw e (same_other c (channel_at o) (register_written (place_at o) v (channel_of (channel_at o) c)) p s)
+left_register_set {k} c o v s (other_snapshot e m p) = subst (λ (x : Card). Same k x c) (sym (write_snapshot o v c e m)) (same_self s)
 
 -- the check of what a write sets looks at the word alone
 setting_same : (k o v w : ℕ) → Here k o → SameFor k o v w → setting_checked o v ≡ setting_checked o w
@@ -203,13 +185,13 @@ unfolding write_done
 same_written {k} {c} {d} o v w h p f s =
     rw (← setting_same k o v w p f) (after_write (offset_checked o) (setting_checked o v) (register_set o v c) (register_set o w d) s (same_register_set o v w h p f s))
 
-pub left_written : {k : ℕ} (c : Card) (o v : ℕ) → Sound c → Away k o → Same k (card_after_write c (write_done c o v)) c
+pub left_written : {k : ℕ} (c : Card) (o v : ℕ) → Sound c → concerns k o ≡ false → Same k (card_after_write c (write_done c o v)) c
 unfolding write_done
 left_written {k} c o v s p = go (nowhere o) (setting_checked o v) refl
   where
     go : (a : Bool) (q : Result (Unit {0}) Refusal) → nowhere o ≡ a → Same k (card_after_write c (given (cond a (Err Offset) (Ok tt)) (given q (Ok (register_set o v c))))) c
     go true q n = same_self s
-    go false (Ok u) n = left_register_set c o v s p n
+    go false (Ok u) n = left_register_set c o v s (away k o p n)
     go false (Err f) n = same_self s
 
 -- what a write answers

@@ -3,7 +3,7 @@ use Rattle.std.proofs.Common.{◌≡◌, ℕ, ◌<◌, Bool, true, false, cond, 
 use Rattle.channel.specs.declared.act.Act.{Act}
 use Rattle.channel.specs.declared.channel.Channel.{Channel}
 use Rattle.channel.specs.Shares.{performed}
-use Rattle.table.specs.Tables.{acted}
+use Rattle.table.specs.Tables.{acted, changed}
 use Rattle.table.proofs.Loops.{get_d_changed, length_changed}
 use Rattle.card.specs.declared.Card.{Card}
 use Rattle.card.specs.declared.shared.Shared.{Shared}
@@ -72,20 +72,20 @@ same_shared s t p q e u = record {
   shared = e;
 }
 
--- every record acts
-acted_at : (a : Act) (cs : List Channel) (k : ℕ) → k < 8 → length cs ≡ 8 → get_or (acted a cs) k blank ≡ performed a k (get_or cs k blank)
-unfolding acted
-acted_at a cs k h l = get_d_changed (performed a) 0 8 k k cs blank h (omega arith) (zero-add k)
-
-length_acted : (a : Act) (cs : List Channel) → length (acted a cs) ≡ length cs
-unfolding acted
-length_acted a cs = length_changed (performed a) 0 8 cs
+-- every record is changed at its place
+pub same_changed : {k : ℕ} {c d : Card} (f g : ℕ → Channel → Channel) → k < 8 → ((x : Channel) → f k x ≡ g k x)
+    → Same k c d → Same k (with_table (changed f 0 8 c.channels) c) (with_table (changed g 0 8 d.channels) d)
+same_changed {k} {c} {d} f g h e s = same_table (changed f 0 8 c.channels) (changed g 0 8 d.channels)
+    (length_changed f 0 8 c.channels ∙ s.left.eight) (length_changed g 0 8 d.channels ∙ s.right.eight)
+    (at f c.channels s.left.eight ∙ e (channel_of k c) ∙ ap (g k) s.channel ∙ sym (at g d.channels s.right.eight)) s
+  where
+    at : (f : ℕ → Channel → Channel) (cs : List Channel) → length cs ≡ 8 → get_or (changed f 0 8 cs) k blank ≡ f k (get_or cs k blank)
+    at f cs l = get_d_changed f 0 8 k k cs blank h (omega arith) (zero-add k)
 
 pub same_acts : {k : ℕ} {c d : Card} (a b : Act) → k < 8 → ((x : Channel) → performed a k x ≡ performed b k x)
     → Same k c d → Same k (on_all a c) (on_all b d)
-same_acts {k} {c} {d} a b h e s = same_table (acted a c.channels) (acted b d.channels)
-    (length_acted a c.channels ∙ s.left.eight) (length_acted b d.channels ∙ s.right.eight)
-    (acted_at a c.channels k h s.left.eight ∙ e (channel_of k c) ∙ ap (performed b k) s.channel ∙ sym (acted_at b d.channels k h s.right.eight)) s
+unfolding acted
+same_acts a b h e s = same_changed (performed a) (performed b) h e s
 
 -- the channel's own record is replaced
 pub same_own : {k : ℕ} {c d : Card} (j : ℕ) (x y : Channel) → k < 8 → j ≡ k → x ≡ y → Same k c d → Same k (with_channel j x c) (with_channel j y d)

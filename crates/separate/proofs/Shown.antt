@@ -163,33 +163,27 @@ debounce_same {k} {c} {d} b h u e =
     (with_shares (Single InputDebounced) h u t e).same
 
 -- 0x160 24 V Output Control: one of the two enables is the channel's
-enables_bit : (t l m l' m' : Bool) (b : ℕ) → cond t l false ≡ cond t l' false → cond t false m ≡ cond t false m' → cond t (eqb b 1) (eqb b 0) ≡ false
-    → word_flag (bit_at 0 l + bit_at 1 m) b ≡ word_flag (bit_at 0 l' + bit_at 1 m') b
-enables_bit t l m l' m' b p q e =
-    let s : Both 1 b (bit_at 0 l) (bit_at 0 l') = record {
-      left = omega (arith, bit_at_most 0 l);
-      right = omega (arith, bit_at_most 0 l');
-      same = flag_of l l' b (λ z. grind (arith, nat_tests));
-    } in
-    (with_flag 1 m m' s (omega arith) (λ z. grind (arith, nat_tests))).same
-
 enables_same : {k : ℕ} {c d : Card} (b : ℕ) → Same k c d → cond (ltb k 4) (eqb b 1) (eqb b 0) ≡ false
     → word_flag (word_of_enables c.shared) b ≡ word_flag (word_of_enables d.shared) b
-enables_same {k} {c} {d} b u e = enables_bit (ltb k 4) c.shared.low_outputs c.shared.high_outputs d.shared.low_outputs d.shared.high_outputs b
-    (ap (λ (q : Shared). q.low_outputs) u.shared) (ap (λ (q : Shared). q.high_outputs) u.shared) e
+enables_same {k} {c} {d} b u e =
+    let p = ap (λ (q : Shared). q.low_outputs) u.shared in
+    let q = ap (λ (q : Shared). q.high_outputs) u.shared in
+    let s : Both 1 b (bit_at 0 c.shared.low_outputs) (bit_at 0 d.shared.low_outputs) = record {
+      left = omega (arith, bit_at_most 0 c.shared.low_outputs);
+      right = omega (arith, bit_at_most 0 d.shared.low_outputs);
+      same = flag_of _ _ b (λ z. grind (arith, nat_tests));
+    } in
+    (with_flag 1 c.shared.high_outputs d.shared.high_outputs s (omega arith) (λ z. grind (arith, nat_tests))).same
 
 -- 0x168 and the levels: DO under DOEN
 mask_bit : (k : ℕ) → k < 8 → (l m : Bool) → word_flag (cond l (cond m 255 15) (cond m 240 0)) k ≡ cond (ltb k 4) l m
 mask_bit k h l m = grind (arith, nat_tests, bit_at_ones 8 k, bit_at_ones 4 k, bit_at_ones_above 4 k, bit_at_mask_inside 4 8 k, bit_at_mask_below 4 8 k)
 
-half_same : (t l m l' m' : Bool) → cond t l false ≡ cond t l' false → cond t false m ≡ cond t false m' → cond t l m ≡ cond t l' m'
-half_same t l m l' m' p q = grind arith
-
 mask_same : {k : ℕ} {c d : Card} → k < 8 → Same k c d → word_flag (mask_of_outputs c.shared) k ≡ word_flag (mask_of_outputs d.shared) k
-mask_same {k} {c} {d} h u = mask_bit k h c.shared.low_outputs c.shared.high_outputs
-    ∙ half_same (ltb k 4) c.shared.low_outputs c.shared.high_outputs d.shared.low_outputs d.shared.high_outputs
-    (ap (λ (q : Shared). q.low_outputs) u.shared) (ap (λ (q : Shared). q.high_outputs) u.shared)
-    ∙ sym (mask_bit k h d.shared.low_outputs d.shared.high_outputs)
+mask_same {k} {c} {d} h u =
+    let p = ap (λ (q : Shared). q.low_outputs) u.shared in
+    let q = ap (λ (q : Shared). q.high_outputs) u.shared in
+    mask_bit k h c.shared.low_outputs c.shared.high_outputs ∙ grind arith ∙ sym (mask_bit k h d.shared.low_outputs d.shared.high_outputs)
 
 own_place : (k b : ℕ) → others_in k 0 1 b ≡ false → b < 8 → k ≡ b
 own_place k b e l = grind (arith, nat_tests)
