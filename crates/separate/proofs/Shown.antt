@@ -5,7 +5,7 @@ use Rattle.std.proofs.Math.Pow.{pow_mono}
 use Rattle.std.proofs.lemmas.Nat.{div-add-mod', mod_below, mul-add-lt, pow-add}
 use Rattle.std.proofs.lemmas.Nat.Bits.{bit_at_mask_below, bit_at_mask_inside, bit_at_ones, bit_at_ones_above}
 use Rattle.std.proofs.lemmas.Bool.Decides.{nat_tests}
-use Rattle.std.proofs.lemmas.Bool.{and_left, cases_lt, eqb-false, eqb-true, ltb-false, or_parts}
+use Rattle.std.proofs.lemmas.Bool.{and_left, cases_lt, eqb-false, eqb-true, ltb-false, ne_eqb, or_parts}
 use Rattle.bits.specs.Words.{bit_at, field_at, word_flag}
 use Rattle.filter.specs.declared.debounce.Debounce.{Debounce}
 use Rattle.filter.specs.Debounces.{word_of_debounce as debounce_fields}
@@ -106,23 +106,19 @@ with_shares {n = n} {b} {x} {y} {c} {d} s h u t e = record {
 bit_up : (n : ℕ) (u : Bool) → bit_at n u ≡ field_at n (bit_at 0 u)
 bit_up n u = grind arith
 
-flag_of : (u v : Bool) (r : ℕ) → (r ≡ 0 → u ≡ v) → word_flag (bit_at 0 u) r ≡ word_flag (bit_at 0 v) r
-flag_of u v zero e = ap (λ t. word_flag (bit_at 0 t) 0) (e refl)
-flag_of u v (suc r) e = above u ∙ sym (above v)
-  where
-    above : (t : Bool) → word_flag (bit_at 0 t) (suc r) ≡ false
-    above t = flag_above (bit_at 0 t) 1 (suc r) (omega (arith, bit_at_most 0 t)) (omega arith)
+flag_of : (u : Bool) (r : ℕ) → word_flag (bit_at 0 u) r ≡ cond (eqb r 0) u false
+flag_of u zero = grind arith
+flag_of u (suc r) = rw (ne_eqb (suc r) 0 (λ q. omega arith)) (flag_above (bit_at 0 u) 1 (suc r) (omega (arith, bit_at_most 0 u)) (omega arith))
 
 with_flag : {n b x y : ℕ} (m : ℕ) (u v : Bool) → Both n b x y → n ≤ m → (b ≡ m → u ≡ v) → Both (m + 1) b (x + bit_at m u) (y + bit_at m v)
 with_flag {n} {b} {x} {y} m u v t l e =
     let p : x < 2 ^ m = omega (arith, pow_mono l) in
     let q : y < 2 ^ m = omega (arith, pow_mono l) in
+    let f : m ≤ b → word_flag (bit_at 0 u) (b - m) ≡ word_flag (bit_at 0 v) (b - m) = λ w. grind (arith, nat_tests, flag_of u (b - m), flag_of v (b - m)) in
     record {
       left = omega (arith, pow-add 2 m 1, bit_at_most m u);
       right = omega (arith, pow-add 2 m 1, bit_at_most m v);
-      same = ap (λ z. word_flag (x + z) b) (bit_up m u)
-          ∙ join x y (bit_at 0 u) (bit_at 0 v) m b p q t.same (λ w. flag_of u v (b - m) (λ z. e (omega arith)))
-          ∙ sym (ap (λ z. word_flag (y + z) b) (bit_up m v));
+      same = rw (bit_up m u, bit_up m v) (join x y (bit_at 0 u) (bit_at 0 v) m b p q t.same f);
     }
 
 pairs : {k b : ℕ} {c d : Card} (x y : Bit) → k < 8 → Same k c d → (others_in k 0 1 b || others_in k 8 1 b) ≡ false → Both 16 b (pair_of x y c.channels) (pair_of x y d.channels)
@@ -171,7 +167,7 @@ enables_same {k} {c} {d} b u e =
     let s : Both 1 b (bit_at 0 c.shared.low_outputs) (bit_at 0 d.shared.low_outputs) = record {
       left = omega (arith, bit_at_most 0 c.shared.low_outputs);
       right = omega (arith, bit_at_most 0 d.shared.low_outputs);
-      same = flag_of _ _ b (λ z. grind (arith, nat_tests));
+      same = grind (arith, nat_tests, flag_of c.shared.low_outputs b, flag_of d.shared.low_outputs b);
     } in
     (with_flag 1 c.shared.high_outputs d.shared.high_outputs s (omega arith) (λ z. grind (arith, nat_tests))).same
 

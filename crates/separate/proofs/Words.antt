@@ -1,5 +1,5 @@
 -- Bits of words: words that agree in their bits, sums of fields, fields gathered from a table.
-use Rattle.std.proofs.Common.{◌≡◌, ℕ, zero, suc, ◌+◌, ◌-◌, ◌*◌, ◌/◌, ◌%◌, ◌^◌, ◌<◌, ◌≤◌, false, ◌&&◌, eqb, List, [], ◌∷◌, length, get_or, sym, ap, ◌∙◌, ap₂, min, mul_comm, add_comm, mul-zero, mul-suc, pow_pos, arith}
+use Rattle.std.proofs.Common.{◌≡◌, ℕ, zero, suc, ◌+◌, ◌-◌, ◌*◌, ◌/◌, ◌%◌, ◌^◌, ◌<◌, ◌≤◌, false, ◌&&◌, eqb, List, [], ◌∷◌, length, get_or, sym, ap, ◌∙◌, min, mul_comm, add_comm, mul-zero, mul-suc, pow_pos, zero-add, arith}
 use lib.Bits.{bit_and}
 use Rattle.std.proofs.lemmas.Nat.{div-add-mod', mod_below, mul-add-lt, pow-add, shr-shr}
 use Rattle.std.proofs.lemmas.Nat.Bits.{bit_at_above, bit_at_and, bit_at_cat_high, bit_at_cat_low, bit_at-lt, same_from_bits, same_from_bits_below}
@@ -57,12 +57,9 @@ word_below w f (x ∷ xs) h =
 pub word_bit : {A : Type 0} (w : ℕ) (f : A → ℕ) (xs : List A) (d : A) (k r : ℕ) → ((x : A) → f x < 2 ^ w) → k < length xs → r < w
     → word_flag (word_of w f xs) (w * k + r) ≡ word_flag (f (get_or xs k d)) r
 word_bit w f [] d k r h p q = absurd (omega arith)
-word_bit w f (x ∷ xs) d zero r h p q =
-    ap₂ word_flag (ap (λ t. f x + t) (mul_comm (2 ^ w) (word_of w f xs))) (let e : w * 0 + r ≡ r = rw (mul-zero w) (omega arith) in e)
-    ∙ flag_low (f x) (word_of w f xs) w r q
+word_bit w f (x ∷ xs) d zero r h p q = rw (mul-zero w, mul_comm (2 ^ w) (word_of w f xs)) (simp zero-add (flag_low (f x) (word_of w f xs) w r q))
 word_bit w f (x ∷ xs) d (suc k) r h p q =
     let e : w * suc k + r ≡ w * k + r + w = omega (arith, mul-suc w k) in
-    ap₂ word_flag (ap (λ t. f x + t) (mul_comm (2 ^ w) (word_of w f xs))) e
-    ∙ flag_high (f x) (word_of w f xs) w (w * k + r + w) (h x) (omega arith)
+    rw (e, mul_comm (2 ^ w) (word_of w f xs)) (flag_high (f x) (word_of w f xs) w (w * k + r + w) (h x) (omega arith))
     ∙ ap (word_flag (word_of w f xs)) (let g : w * k + r + w - w ≡ w * k + r = omega arith in g)
     ∙ word_bit w f xs d k r h (omega arith) q
