@@ -2,19 +2,18 @@
 use Rattle.std.proofs.Common.{◌≡◌, ℕ, ◌+◌, ◌*◌, ◌<◌, Bool, true, false, cond, not, ◌||◌, eqb, ltb, refl, ap, subst, ap₂, arith}
 use Rattle.std.proofs.lemmas.Bool.{eqb-true, or_from}
 use Rattle.bits.specs.Words.{word_field, word_flag}
-use Rattle.filter.specs.declared.debounce.Debounce.{Debounce}
-use Rattle.filter.specs.declared.debounce.TimeBase.TheVariants.{Ns30, Ns100, Us1, Ms1}
 use Rattle.filter.specs.Debounces.{debounce_of, period_of}
 use Rattle.parts.specs.Inputs.{debounced_by}
 use Rattle.timer.specs.declared.Timer.{Timer}
 use Rattle.timer.specs.Timers.{control_written as timer_written, preload_written as timer_preloaded}
+use Rattle.channel.specs.declared.act.Act.{Act}
 use Rattle.channel.specs.declared.act.Act.TheVariants.{AcknowledgeEdges, AcknowledgeInterrupts, ClearSnapshot, Control, DebounceInput, EnableEdges, EnableInterrupts, Load, Output, Snapshot, TestOutput}
 use Rattle.channel.specs.declared.channel.Channel.{Channel}
 use Rattle.channel.specs.Records.{with_input, with_outputs}
 use Rattle.channel.specs.Shares.{acknowledged_edges, acknowledged_interrupts, controlled, edges_enabled, interrupts_enabled, loaded_by, performed}
 use Rattle.card.specs.declared.Card.{Card}
 use Rattle.card.specs.declared.shared.Shared.{Shared}
-use Rattle.card.specs.Records.{with_shared, with_table}
+use Rattle.card.specs.Records.{with_shared}
 use Rattle.card.specs.Shared.{control_set, debounce_set, interrupts_set, outputs_enabled, timer_acknowledged, with_overflow, with_scratchpad, with_timer}
 use Rattle.card.specs.SharedRegisters.{acknowledged_all, control_written, inputs_debounced, interrupts_enabled as enables_written, on_all, shared_written}
 use Rattle.card.specs.Snapshots.{commanded, snapshots_cleared, status_of, status_word, triggered}
@@ -23,17 +22,14 @@ use Rattle.separate.proofs.Words.{field_same, word_same}
 use Rattle.separate.proofs.Named.{above_fields, below_fields, own_bit}
 use Rattle.separate.proofs.Same.{Same, same_acts, same_cond, same_if, same_shared, shared_for}
 
--- a trigger: the overflow is not the channel's
-pub same_triggered : {k : ℕ} {c d : Card} → k < 8 → Same k c d → Same k (triggered c) (triggered d)
-same_triggered {k} {c} {d} h s = same_acts Snapshot Snapshot h (λ x. refl)
-    (same_shared (with_overflow (not (eqb (status_word (status_of c)) 0)) c.shared) (with_overflow (not (eqb (status_word (status_of d)) 0)) d.shared)
-    s.left.time s.right.time s.shared s)
+-- a trigger, and a clear: the overflow is not the channel's
+same_overflow : {k : ℕ} {c d : Card} (a : Act) (x y : Bool) → k < 8 → Same k c d
+    → Same k (on_all a (with_shared (with_overflow x c.shared) c)) (on_all a (with_shared (with_overflow y d.shared) d))
+same_overflow {k} {c} {d} a x y h s = same_acts a a h (λ z. refl)
+    (same_shared (with_overflow x c.shared) (with_overflow y d.shared) s.left.time s.right.time s.shared s)
 
-same_cleared : {k : ℕ} {c d : Card} → k < 8 → Same k c d
-    → Same k (with_table (on_all ClearSnapshot c).channels (with_shared (with_overflow false c.shared) c))
-    (with_table (on_all ClearSnapshot d).channels (with_shared (with_overflow false d.shared) d))
-same_cleared {k} {c} {d} h s = same_acts ClearSnapshot ClearSnapshot h (λ x. refl)
-    (same_shared (with_overflow false c.shared) (with_overflow false d.shared) s.left.time s.right.time s.shared s)
+pub same_triggered : {k : ℕ} {c d : Card} → k < 8 → Same k c d → Same k (triggered c) (triggered d)
+same_triggered {k} {c} {d} h s = same_overflow Snapshot (not (eqb (status_word (status_of c)) 0)) (not (eqb (status_word (status_of d)) 0)) h s
 
 -- 0x000 Global Control
 same_control : {k : ℕ} {c d : Card} (v w : ℕ) → k < 8 → SameFor k 0 v w → Same k c d → Same k (control_written v c) (control_written w d)
@@ -49,17 +45,15 @@ unfolding performed
 same_command {k} {c} {d} v w h e s =
     let loads : Same k (on_all (Load v) c) (on_all (Load w) d) = same_acts (Load v) (Load w) h (λ x. ap (λ one. loaded_by one x) (e k (own_bit k 0 1 k (omega arith)))) s in
     let clears : Same k (snapshots_cleared (word_flag v 9) (on_all (Load v) c)) (snapshots_cleared (word_flag w 9) (on_all (Load w) d))
-    = same_cond (word_flag v 9) (word_flag w 9) (e 9 refl) (same_cleared h loads) loads in
+    = same_cond (word_flag v 9) (word_flag w 9) (e 9 refl) (same_overflow ClearSnapshot false false h loads) loads in
     same_cond (word_flag v 8) (word_flag w 8) (e 8 refl) (same_triggered h clears) clears
 
 -- 0x154 24 V Input Debouncing
-abbrev debounce_from : ℕ → ℕ → Debounce
-debounce_from b t = record { base = cond (eqb b 0) Ns30 (cond (eqb b 1) Ns100 (cond (eqb b 2) Us1 Ms1)); time = t }
-
 debounce_same : (k v w : ℕ) → SameFor k 340 v w → debounce_of v ≡ debounce_of w
-debounce_same k v w e = ap₂ debounce_from
-    (field_same v w 16 2 (λ b l. e (16 + b) (below_fields k 24 1 (16 + b) (omega arith))))
-    (field_same v w 0 16 (λ b l. e (0 + b) (below_fields k 24 1 (0 + b) (omega arith))))
+debounce_same k v w e = rw (
+  field_same v w 16 2 (λ b l. e (16 + b) (below_fields k 24 1 (16 + b) (omega arith))),
+  field_same v w 0 16 (λ b l. e (0 + b) (below_fields k 24 1 (0 + b) (omega arith))),
+) refl
 
 time_below : (v : ℕ) → word_field v 0 16 < 65536
 time_below v = omega arith
@@ -72,8 +66,7 @@ same_debounce {k} {c} {d} v w h e s =
     (same_shared (debounce_set v c.shared) (debounce_set w d.shared) (time_below v) (time_below w)
     (rw (← debounce_same k v w e) (ap (debounce_set v) s.shared)) s)
 
--- 0x160 24 V Output Control
--- of the two enables the channel has one
+-- 0x160 24 V Output Control: of the two enables the channel has one
 half_same : (v w : ℕ) (low : Bool) → ((b : ℕ) → cond low (eqb b 1) (eqb b 0) ≡ false → word_flag v b ≡ word_flag w b)
     → (cond low (word_flag v 0) false ≡ cond low (word_flag w 0) false) × (cond low false (word_flag v 1) ≡ cond low false (word_flag w 1))
 half_same v w true e = (e 0 refl, refl)
