@@ -1,6 +1,5 @@
 -- A transmission under way on a channel with its sensor: what calls and ticks leave of it.
 use Rattle.std.proofs.Common.{◌≡◌, ℕ, ◌*◌, ◌^◌, ◌<◌, ◌≤◌, Bool, true, false, cond, ◌⊎◌, Some, Option, sym, refl, ap, ◌∙◌, subst, inl, inr, arith, pow_mono}
-use Rattle.std.proofs.lemmas.Bool.{true≢false}
 use Rattle.std.specs.Option.{option_map}
 use Rattle.filter.specs.declared.samples.Samples.{Samples}
 use Rattle.filter.specs.Filters.{line_filtered, samples_in, ticked}
@@ -9,7 +8,7 @@ use Rattle.frame.specs.Layout.{reading_of}
 use Rattle.frame.specs.declared.format.Format.{Format}
 use Rattle.counter_count.specs.declared.levels.Levels.{Levels}
 use Rattle.controller.specs.declared.phase.Phase.{Phase}
-use Rattle.controller.specs.declared.phase.Phase.TheVariants.{Waiting, Clocking, Recovering}
+use Rattle.controller.specs.declared.phase.Phase.TheVariants.{Clocking, Recovering}
 use Rattle.controller.specs.declared.registers.Ssi.{Ssi}
 use Rattle.controller.specs.Phase.{active_in, busy_in, clock_of, phase_ticked}
 use Rattle.controller.specs.Registers.{phase_requested, started}
@@ -28,9 +27,8 @@ use Rattle.channel.specs.Shares.{clock_level, clock_level_as}
 use Rattle.channel.specs.Snapshots.{transmits, transmits_as, triggered}
 use Rattle.channel.specs.Ticks.{channel_ticked}
 use Rattle.delivered.proofs.Flight.{Flight, FlightAfter, Goes, Lands, bits_of, flight_busy, flight_first, flight_tick, slow_tick}
-use Rattle.delivered.proofs.Changes.{Change, Filtering, filtering, kept, asked, ended, restarted, Timed}
-use Rattle.delivered.proofs.Ticks.{Stays, Transmits, seen, transmits_on, trigger_stays}
-use Rattle.delivered.proofs.Starts.{contrary}
+use Rattle.delivered.proofs.Changes.{Change, Filtering, filtering, Timed}
+use Rattle.delivered.proofs.Ticks.{Transmits, seen, stays_if, transmits_on}
 
 -- the channel h transmits the frame F of its sensor, which says the position pos
 pub record Aloft (F pos : ℕ) (h : Channel) (o : Option Model) : Type 0 where
@@ -43,28 +41,17 @@ pub record Aloft (F pos : ℕ) (h : Channel) (o : Option Model) : Type 0 where
   pub small : F < 2 ^ 40
   pub reads : (reading_of sensor.constants.format F).number ≡ pos
 
-request_busy : (i : Ssi) (p : Phase) → busy_in p ≡ true → phase_requested i p ≡ p
-unfolding phase_requested
-request_busy i Waiting b = absurd (true≢false (sym b))
-request_busy i (Clocking t) b = refl
-request_busy i (Recovering n) b = absurd (true≢false (sym b))
-
 -- what leaves a transmission under way leaves the mode
 pub mode_kept : {R : Type 0} {h d : Channel} → Change R h d → transmits h ≡ true → transmits d ≡ true → d.mode ≡ h.mode
-mode_kept (kept m l) b e = m
-mode_kept (asked i p a m o l) b e = m ∙ ap Reading (request_busy i p (sym (ap transmits_as a) ∙ b)) ∙ sym a
-mode_kept (ended m l) b e = contrary e m
-mode_kept (restarted r v m l) b e = m
+unfolding phase_requested
+mode_kept c b e = grind arith
 
 -- and where the filters are not restarted, it leaves them
 lines_kept : {R : Type 0} {h d : Channel} → (R → ⊥) → Change R h d → filtering d ≡ filtering h
-lines_kept n (kept m l) = l
-lines_kept n (asked i p a m o l) = l
-lines_kept n (ended m l) = l
-lines_kept n (restarted r v m l) = absurd (n r)
+lines_kept n c = grind arith
 
 pub aloft_busy : {F pos : ℕ} {h : Channel} {o : Option Model} → Aloft F pos h o → transmits h ≡ true
-aloft_busy a = ap transmits_as a.mode ∙ flight_busy a.flies
+aloft_busy a = grind (arith, flight_busy)
 
 -- an access
 pub aloft_change : {R : Type 0} {F pos : ℕ} {h d : Channel} {o : Option Model} → (R → ⊥) → Change R h d → transmits d ≡ true → Aloft F pos h o → Aloft F pos d o
@@ -96,18 +83,7 @@ aloft_turn {F} {pos} {h} {o} q a =
     }
 
 busy_active : (p : Phase) → busy_in p ≡ true → active_in p ≡ true
-busy_active Waiting b = b
-busy_active (Clocking t) b = refl
-busy_active (Recovering n) b = refl
-
-stays_if : (t : Bool) (p : Phase) (h : Channel) → h.mode ≡ Reading p → active_in p ≡ true → Stays p h (cond t (triggered h) h)
-stays_if true p h e a = trigger_stays p h e a
-stays_if false p h e a = record { mode = e; lines = refl; word = refl; control = refl }
-
-transmits_busy : (x : Levels) (i expired : Bool) (p : Phase) (h : Channel) → busy_in p ≡ true → h.mode ≡ Reading p → Transmits x p h (channel_ticked x i expired h)
-transmits_busy x i expired Waiting h b e = absurd (true≢false (sym b))
-transmits_busy x i expired (Clocking t) h b e = transmits_on x i expired t h e
-transmits_busy x i expired (Recovering n) h b e = absurd (true≢false (sym b))
+busy_active p b = grind arith
 
 -- the filter of the data line after a tick with the line at v
 abbrev filtered_at : Channel → Bool → Samples
@@ -169,7 +145,7 @@ aloft_tick {F} {pos} {h} {o} x i expired t clk a lv ck = go next
     h₁ = channel_ticked x i expired h
 
     tr : Transmits x a.phase h h₁
-    tr = transmits_busy x i expired a.phase h (flight_busy a.flies) a.mode
+    tr = transmits_on x i expired a.phase h (flight_busy a.flies) a.mode
 
     AtLevel : Bool → Type 0
     AtLevel v =
@@ -192,7 +168,7 @@ pub aloft_first : (H : ℕ) (f : Format) (s : Model) (h : Channel) (x : Levels) 
 aloft_first H f s h x i expired t clk sound timed slow m ef idle high ck =
     let F = frame_of s.constants s.position in
     let p = Clocking (started H f) in
-    let tr = transmits_busy x i expired p h refl m in
+    let tr = transmits_on x i expired p h refl m in
     let S : Format → Sensing → Bool → Type 0 = λ g q k. FlightAfter s.constants F H (ticked h.lines.timing) (filtered_at h x.b) q k s.position (phase_ticked (seen x h) (Clocking (started H g))) in
     let below : F < 2 ^ bits_of s.constants = frame_below s sound in
     let first : S s.constants.format Idle true = flight_first s.constants s.position H (ticked h.lines.timing) (filtered_at h x.b) (seen x h) (omega (arith, timed.0, timed.1)) below (slow_tick H h.lines.timing (record { sound = timed.0; half = omega (arith, timed.1, slow) })) in

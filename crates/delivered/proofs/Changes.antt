@@ -1,33 +1,26 @@
 -- What an access does to a channel's mode and line filters.
-use Rattle.std.proofs.Common.{◌≡◌, ℕ, ◌*◌, ◌<◌, ◌≤◌, Bool, true, false, cond, eqb, sym, refl, subst, arith}
-use Rattle.std.proofs.lemmas.Bool.{cond_both, eqb-true, eqb-false}
+use Rattle.std.proofs.Common.{◌≡◌, ℕ, ◌*◌, ◌<◌, Bool, true, false, cond, eqb, refl, arith}
+use Rattle.std.proofs.lemmas.Bool.{eqb-true}
 use Rattle.bits.specs.Words.{word_field}
 use Rattle.filter.specs.declared.debounce.Debounce.{Debounce}
-use Rattle.filter.specs.declared.debounce.TimeBase.{TimeBase}
-use Rattle.filter.specs.declared.debounce.TimeBase.TheVariants.{Ns30, Ns100, Us1, Ms1}
-use Rattle.filter.specs.Debounces.{base_ticks, debounce_of, period_of}
+use Rattle.filter.specs.Debounces.{debounce_of, period_of}
 use Rattle.controller.specs.declared.control.Start.{Start}
 use Rattle.controller.specs.declared.control.Start.TheVariants.{Request, Timer}
 use Rattle.controller.specs.declared.phase.Phase.{Phase}
-use Rattle.controller.specs.declared.phase.Phase.TheVariants.{Waiting, Clocking, Recovering}
 use Rattle.controller.specs.declared.registers.Ssi.{Ssi}
-use Rattle.controller.specs.Phase.{busy_in}
-use Rattle.controller.specs.Registers.{phase_requested, requested as ssi_requested, with_busy}
+use Rattle.controller.specs.Registers.{phase_requested, requested as ssi_requested}
 use Rattle.parts.specs.declared.snapshot.Snapshot.{Snapshot as Part}
-use Rattle.parts.specs.Snapshots.{completed}
 use Rattle.channel.specs.declared.act.Act.{Act}
 use Rattle.channel.specs.declared.act.Act.TheVariants.{Control, Load, ClearSnapshot, Snapshot, DebounceInput, Output, EnableInterrupts, AcknowledgeInterrupts, EnableEdges, AcknowledgeEdges, TestOutput}
 use Rattle.channel.specs.declared.channel.Channel.{Channel}
 use Rattle.channel.specs.declared.lines.Lines.{Lines}
 use Rattle.channel.specs.declared.mode.Mode.{Mode}
 use Rattle.channel.specs.declared.mode.Mode.TheVariants.{Off, Counter as Counting, Ssi as Reading}
-use Rattle.channel.specs.declared.mode.OffCode.{OffCode}
-use Rattle.channel.specs.declared.mode.OffCode.TheVariants.{Zeros, Ones}
 use Rattle.channel.specs.Lines.{lines_restarted}
-use Rattle.channel.specs.Modes.{became_counter_as, became_off, became_ssi_as, departed_as, mode_written}
+use Rattle.channel.specs.Modes.{mode_written}
 use Rattle.channel.specs.Records.{with_snapshot}
-use Rattle.channel.specs.Registers.{data_taken_as, debounce_written, register_taken, register_written, is_taking_requests}
-use Rattle.channel.specs.Shares.{loaded_as, performed}
+use Rattle.channel.specs.Registers.{debounce_written, register_taken, register_written, is_taking_requests}
+use Rattle.channel.specs.Shares.{performed}
 use Rattle.channel.specs.Snapshots.{snapped_as, ssi_snapped_as, transmits, triggered}
 use Rattle.channel.specs.Ticks.{requested, requested_as}
 
@@ -68,9 +61,7 @@ snapshot_too s (restarted r v m l) = restarted r v m l
 -- a request leaves the settings
 requested_control : (p : Phase) (i : Ssi) → (ssi_requested p i).control ≡ i.control
 unfolding ssi_requested
-requested_control Waiting i = cond_both (eqb i.control.rate 0) i (with_busy i false) (λ j. j.control ≡ i.control) (λ _. refl) (λ _. refl)
-requested_control (Clocking t) i = refl
-requested_control (Recovering n) i = refl
+requested_control p i = grind arith
 
 request_as : {R : Type 0} (m : Mode) (c : Channel) → c.mode ≡ m → Change R c (requested_as m c)
 request_as (Off z) c e = none
@@ -93,38 +84,13 @@ snapped_as_lem (Reading p) c = ssi_snapped_lem c.ssi.control.start c
 pub trigger_change : {R : Type 0} (c : Channel) → Change R c (triggered c)
 trigger_change c = either c.snapshot.enabled (snapped_as_lem c.mode c) none
 
--- the modes
-departed_lines : (m : Mode) (c : Channel) → filtering (departed_as m c) ≡ filtering c
-departed_lines (Off z) c = refl
-departed_lines Counting c = refl
-departed_lines (Reading p) c = cond_both (busy_in p) (with_snapshot (completed 0 c.snapshot) c) c (λ x. filtering x ≡ filtering c) (λ _. refl) (λ _. refl)
-
-off_change : {R : Type 0} (z : OffCode) (c : Channel) → Change R c (became_off z c)
-off_change z c = ended refl (departed_lines c.mode c)
-
-ssi_as : {R : Type 0} (m : Mode) (c : Channel) → Change R c (became_ssi_as m c)
-ssi_as (Off z) c = ended refl (departed_lines c.mode c)
-ssi_as Counting c = ended refl (departed_lines c.mode c)
-ssi_as (Reading p) c = none
-
-counter_as : {R : Type 0} (m : Mode) (c : Channel) → Change R c (became_counter_as m c)
-counter_as (Off z) c = ended refl (departed_lines c.mode c)
-counter_as Counting c = none
-counter_as (Reading p) c = ended refl (departed_lines c.mode c)
-
 mode_change : {R : Type 0} (n : ℕ) (c : Channel) → Change R c (mode_written n c)
-mode_change n c =
-    either (eqb n 0) (off_change Zeros c) (either (eqb n 1) (ssi_as c.mode c) (either (eqb n 2) (counter_as c.mode c) (off_change Ones c)))
+mode_change n c = grind (arith, kept, ended)
 
 -- a load
-loaded_as_lem : (m : Mode) (c : Channel) → ((loaded_as m c).mode ≡ c.mode) × (filtering (loaded_as m c) ≡ filtering c)
-loaded_as_lem (Off z) c = (refl, refl)
-loaded_as_lem Counting c = (refl, refl)
-loaded_as_lem (Reading p) c = (refl, refl)
-
 pub load_keeps : (w k : ℕ) (c : Channel) → ((performed (Load w) k c).mode ≡ c.mode) × (filtering (performed (Load w) k c) ≡ filtering c)
 unfolding performed
-load_keeps w k c = cond_both _ (loaded_as c.mode c) c (λ x. (x.mode ≡ c.mode) × (filtering x ≡ filtering c)) (λ _. loaded_as_lem c.mode c) (λ _. (refl, refl))
+load_keeps w k c = grind arith
 
 pub clear_keeps : (k : ℕ) (c : Channel) → ((performed ClearSnapshot k c).mode ≡ c.mode) × (filtering (performed ClearSnapshot k c) ≡ filtering c)
 unfolding performed
@@ -156,26 +122,13 @@ write_change o v c =
     at_debounce true e = restarted (eqb-true o 28 e) v refl refl
     at_debounce false e = either (eqb o 32) (either (is_taking_requests c) (request_change c) none) none
 
-data_as : {R : Type 0} (m : Mode) (c : Channel) → Change R c (data_taken_as m c)
-data_as (Off z) c = none
-data_as Counting c = kept refl refl
-data_as (Reading p) c = none
-
 pub read_change : {R : Type 0} (o : ℕ) (c : Channel) → Change R c (register_taken o c)
 unfolding register_taken
-read_change o c = either (eqb o 32) (data_as c.mode c) none
+read_change o c = grind (arith, kept)
 
 -- a period is at least one tick
-base_some : (b : TimeBase) (t : ℕ) → 1 ≤ t → 0 < t * base_ticks b
-base_some Ns30 t h = omega arith
-base_some Ns100 t h = omega arith
-base_some Us1 t h = omega arith
-base_some Ms1 t h = omega arith
-
 period_some : (d : Debounce) → 0 < period_of d
-period_some d =
-    cond_both (eqb d.time 0) 1 (d.time * base_ticks d.base) (λ n. 0 < n) (λ _. omega arith)
-    (λ e. base_some d.base d.time (omega (arith, eqb-false d.time 0 e)))
+period_some d = grind arith
 
 -- the filters sample with the period of the settings, and their phase is below it
 abbrev pub Paced : Filtering → Type 0
@@ -185,7 +138,4 @@ abbrev pub Timed : Channel → Type 0
 Timed c = Paced (filtering c)
 
 pub timed_change : {R : Type 0} {c d : Channel} → Change R c d → Timed c → Timed d
-timed_change (kept m l) h = subst Paced (sym l) h
-timed_change (asked i p e m o l) h = subst Paced (sym l) h
-timed_change (ended m l) h = subst Paced (sym l) h
-timed_change (restarted r v m l) h = subst Paced (sym l) (period_some (debounce_of v), refl)
+timed_change g h = grind (arith, period_some)
