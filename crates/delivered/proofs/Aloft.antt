@@ -11,7 +11,7 @@ use Rattle.controller.specs.declared.phase.Phase.{Phase}
 use Rattle.controller.specs.declared.phase.Phase.TheVariants.{Clocking, Recovering}
 use Rattle.controller.specs.declared.registers.Ssi.{Ssi}
 use Rattle.controller.specs.Phase.{active_in, busy_in, clock_of, phase_ticked}
-use Rattle.controller.specs.Registers.{phase_requested, started}
+use Rattle.controller.specs.Registers.{started}
 use Rattle.controller.proofs.Steps.{bits_most}
 use Rattle.sensor.specs.declared.phase.Phase.{Phase as Sensing}
 use Rattle.sensor.specs.declared.phase.Phase.TheVariants.{Idle}
@@ -27,7 +27,7 @@ use Rattle.channel.specs.Shares.{clock_level, clock_level_as}
 use Rattle.channel.specs.Snapshots.{transmits, transmits_as, triggered}
 use Rattle.channel.specs.Ticks.{channel_ticked}
 use Rattle.delivered.proofs.Flight.{Flight, FlightAfter, Goes, Lands, bits_of, flight_busy, flight_first, flight_tick, slow_tick}
-use Rattle.delivered.proofs.Changes.{Change, Filtering, filtering, Timed}
+use Rattle.delivered.proofs.Changes.{Change, Filtering, Timed}
 use Rattle.delivered.proofs.Ticks.{Transmits, seen, stays_if, transmits_on}
 
 -- the channel h transmits the frame F of its sensor, which says the position pos
@@ -41,15 +41,6 @@ pub record Aloft (F pos : ℕ) (h : Channel) (o : Option Model) : Type 0 where
   pub small : F < 2 ^ 40
   pub reads : (reading_of sensor.constants.format F).number ≡ pos
 
--- what leaves a transmission under way leaves the mode
-pub mode_kept : {R : Type 0} {h d : Channel} → Change R h d → transmits h ≡ true → transmits d ≡ true → d.mode ≡ h.mode
-unfolding phase_requested
-mode_kept c b e = grind arith
-
--- and where the filters are not restarted, it leaves them
-lines_kept : {R : Type 0} {h d : Channel} → (R → ⊥) → Change R h d → filtering d ≡ filtering h
-lines_kept n c = grind arith
-
 pub aloft_busy : {F pos : ℕ} {h : Channel} {o : Option Model} → Aloft F pos h o → transmits h ≡ true
 aloft_busy a = grind (arith, flight_busy)
 
@@ -61,8 +52,8 @@ aloft_change {R} {F} {pos} {h} {d} {o} n c b a =
       half = a.half;
       phase = a.phase;
       is = a.is;
-      mode = mode_kept c (aloft_busy a) b ∙ a.mode;
-      flies = subst (λ (l : Filtering). Flight a.sensor.constants F a.half l.lines.timing l.lines.b a.phase a.sensor.phase a.sensor.clock) (sym (lines_kept n c)) a.flies;
+      mode = c.mode (aloft_busy a) b ∙ a.mode;
+      flies = subst (λ (l : Filtering). Flight a.sensor.constants F a.half l.lines.timing l.lines.b a.phase a.sensor.phase a.sensor.clock) (sym (c.lines n)) a.flies;
       small = a.small;
       reads = a.reads;
     }

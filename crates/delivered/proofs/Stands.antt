@@ -1,7 +1,7 @@
 -- The law of delivered positions, over every list of calls.
 use Rattle.std.proofs.Common.{◌≡◌, ℕ, ◌+◌, ◌*◌, ◌<◌, Bool, true, false, cond, ◌⊎◌, List, [], ◌∷◌, length, IfSome, Some, Ok, Option, unwrap_or, sym, refl, ap, ◌∙◌, subst, inl, inr, arith}
 use Rattle.std.proofs.lemmas.List.{get_or-replicate}
-use Rattle.std.proofs.lemmas.Bool.{cases_eq}
+use Rattle.std.proofs.lemmas.Bool.{both_ways, cases_eq}
 use Rattle.std.specs.Option.{option_map}
 use Rattle.bits.specs.Words.{word_flag}
 use Rattle.counter_count.specs.declared.levels.Levels.{Levels}
@@ -28,11 +28,10 @@ use Rattle.rig.specs.declared.calls.RigCall.{RigCall}
 use Rattle.rig.specs.declared.calls.RigCall.TheVariants.{Card as OnCard, Tick, Turn}
 use Rattle.rig.specs.Benches.{Bench, lines_on, new_bench, run_on, step_on}
 use Rattle.delivered.specs.Delivery.{Allowed, Delivers, Fits, NoTick, Pending, UnderWay, asked_on, begun_on, busy, ended_on, nearly_on, quiet_on, ready_on, settings_of}
-use Rattle.delivered.proofs.Changes.{Timed, timed_change}
+use Rattle.delivered.proofs.Changes.{Started, Timed, first_phase}
 use Rattle.delivered.proofs.Moves.{Moves, read_moves, write_moves}
-use Rattle.delivered.proofs.Ticks.{TickAt, clock_answer, own_tick, tick_at_lem, timed_card_tick}
-use Rattle.delivered.proofs.Starts.{Started, change_starts, contrary, first_phase, tick_then}
-use Rattle.delivered.proofs.Aloft.{Aloft, Landed, aloft_busy, aloft_change, aloft_first, aloft_tick, aloft_turn, mode_kept}
+use Rattle.delivered.proofs.Ticks.{TickAt, clock_answer, own_tick, tick_then, tick_at_lem, timed_card_tick}
+use Rattle.delivered.proofs.Aloft.{Aloft, Landed, aloft_busy, aloft_change, aloft_first, aloft_tick, aloft_turn}
 use Rattle.delivered.proofs.Shown.{busy_is, data_is}
 
 -- what holds after every list of calls: eight records, filters whose phase is below their period, sound sensors
@@ -47,7 +46,7 @@ sane_new m s = record { eight = refl; timed = λ k l. subst Timed (sym (get_or-r
 
 sane_moves : {R : ℕ → Type 0} (b : Bench) (d : Card) → Sane b → ((k : ℕ) → k < 8 → Moves (R k) k b.card d) → Sane (record { card = d; field = b.field })
 sane_moves b d s f =
-    record { eight = (f 0 (omega arith)).eight ∙ s.eight; timed = λ k l. timed_change (f k l).change (s.timed k l); sounds = s.sounds }
+    record { eight = (f 0 (omega arith)).eight ∙ s.eight; timed = λ k l. (f k l).change.timed (s.timed k l); sounds = s.sounds }
 
 sane_tick : (b : Bench) (lines inputs : ℕ) (f : FieldModel) → Sane b → Sounds f → Sane (record { card = tick_done lines inputs b.card; field = f })
 sane_tick b lines inputs f s g =
@@ -79,16 +78,16 @@ tick_started k lines inputs c d t q =
 
 starts : (k : ℕ) (b : Bench) (x : RigCall) → k < 8 → Sane b → transmits (own k b) ≡ false → transmits (own k (step_on b x)) ≡ true → Started (own k (step_on b x))
 starts k b (OnCard (CardTick lines inputs)) l s q e = tick_started k lines inputs b.card _ (tick_at_lem k lines inputs b.card l s.eight) q e
-starts k b (OnCard (Read o)) l s q e = change_starts (read_moves {R = ⊥} o k b.card l s.eight).change q e
-starts k b (OnCard (Write o v)) l s q e = change_starts (write_moves o v k b.card l s.eight).change q e
+starts k b (OnCard (Read o)) l s q e = (read_moves {R = ⊥} o k b.card l s.eight).change.starts q e
+starts k b (OnCard (Write o v)) l s q e = (write_moves o v k b.card l s.eight).change.starts q e
 starts k b (Tick lines inputs) l s q e = tick_started k (lines_on b lines) inputs b.card _ (tick_at_lem k (lines_on b lines) inputs b.card l s.eight) q e
-starts k b (Turn j p) l s q e = contrary e q
+starts k b (Turn j p) l s q e = absurd (both_ways _ q e)
 
 -- calls without a tick leave the controller as it is, while it is busy
 pending_step : (k : ℕ) (b : Bench) (z : RigCall) → k < 8 → Sane b → NoTick z → transmits (own k b) ≡ true → transmits (own k (step_on b z)) ≡ true → (own k (step_on b z)).mode ≡ (own k b).mode
 pending_step k b (OnCard (CardTick lines inputs)) l s n q e = absurd n
-pending_step k b (OnCard (Read o)) l s n q e = mode_kept (read_moves {R = ⊥} o k b.card l s.eight).change q e
-pending_step k b (OnCard (Write o v)) l s n q e = mode_kept (write_moves o v k b.card l s.eight).change q e
+pending_step k b (OnCard (Read o)) l s n q e = (read_moves {R = ⊥} o k b.card l s.eight).change.mode q e
+pending_step k b (OnCard (Write o v)) l s n q e = (write_moves o v k b.card l s.eight).change.mode q e
 pending_step k b (Tick lines inputs) l s n q e = absurd n
 pending_step k b (Turn j p) l s n q e = refl
 
@@ -158,7 +157,7 @@ under_step k F pos b (Tick lines inputs) l s w e a = go (rig_tick k lines inputs
   where
     go : (AloftOn k F pos (step_on b (Tick lines inputs))) ⊎ (Landed pos (own k (step_on b (Tick lines inputs)))) → AloftOn k F pos (step_on b (Tick lines inputs))
     go (inl f) = f
-    go (inr d) = contrary e d.over
+    go (inr d) = absurd (both_ways _ d.over e)
 under_step k F pos b (Turn j p) l s w e a = turn_step k j p F pos b a
 
 under_busy : (k : ℕ) (b : Bench) (ys : List RigCall) → UnderWay k b ys → busy k b ≡ true
@@ -176,7 +175,7 @@ last_tick : (k lines inputs F pos : ℕ) (b : Bench) → k < 8 → Sane b → Al
 last_tick k lines inputs F pos b l s a e = go (rig_tick k lines inputs F pos b l s a)
   where
     go : (AloftOn k F pos (step_on b (Tick lines inputs))) ⊎ (Landed pos (own k (step_on b (Tick lines inputs)))) → Landed pos (own k (step_on b (Tick lines inputs)))
-    go (inl f) = contrary (aloft_busy f) e
+    go (inl f) = absurd (both_ways _ e (aloft_busy f))
     go (inr d) = d
 
 -- the rig tick in which the clock first falls

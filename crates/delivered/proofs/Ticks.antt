@@ -17,7 +17,7 @@ use Rattle.channel.specs.declared.channel.Channel.{Channel}
 use Rattle.channel.specs.declared.mode.Mode.TheVariants.{Ssi as Reading}
 use Rattle.channel.specs.Lines.{lines_ticked}
 use Rattle.channel.specs.Shares.{bit_of, clock_level, performed, share_of}
-use Rattle.channel.specs.Snapshots.{triggered}
+use Rattle.channel.specs.Snapshots.{transmits, triggered}
 use Rattle.channel.specs.Ticks.{channel_ticked, observed, timer_requested}
 use Rattle.table.specs.Tables.{gathered, line_levels_at, table_ticked, tick_at, word_of}
 use Rattle.table.proofs.Loops.{get_d_changed, length_changed}
@@ -25,7 +25,7 @@ use Rattle.card.specs.Calls.{Card, channels_ticked, tick_done, tick_levels}
 use Rattle.card.specs.Records.{blank, channel_of}
 use Rattle.card.specs.Shared.{expiry}
 use Rattle.card.specs.Snapshots.{timer_triggered, triggered as all_triggered}
-use Rattle.delivered.proofs.Changes.{Timed}
+use Rattle.delivered.proofs.Changes.{Started, Timed}
 use Rattle.delivered.proofs.Moves.{acted_at, acted_length}
 
 -- the level of the data line after its filter
@@ -54,6 +54,17 @@ pub record Stays (p : Phase) (h d : Channel) : Type 0 where
 pub stays_if : (t : Bool) (p : Phase) (h : Channel) → h.mode ≡ Reading p → active_in p ≡ true → Stays p h (cond t (triggered h) h)
 unfolding phase_requested ssi_requested
 stays_if t p h e a = grind arith
+
+tick_starts : (x : Levels) (i expired : Bool) (h : Channel) → transmits h ≡ false → transmits (channel_ticked x i expired h) ≡ true → Started (channel_ticked x i expired h)
+unfolding channel_ticked phase_requested ssi_requested phase_ticked
+tick_starts x i expired h q b = grind arith
+
+-- a tick with a trigger or none
+pub tick_then : (t : Bool) (x : Levels) (i expired : Bool) (h : Channel) → transmits h ≡ false
+    → transmits (cond t (triggered (channel_ticked x i expired h)) (channel_ticked x i expired h)) ≡ true
+    → Started (cond t (triggered (channel_ticked x i expired h)) (channel_ticked x i expired h))
+unfolding phase_requested ssi_requested
+tick_then t x i expired h q b = grind (arith, tick_starts)
 
 -- the filters keep their pace in a tick, whatever the channel does
 pub timed_tick : (x : Levels) (i expired : Bool) (h : Channel) → Timed h → Timed (channel_ticked x i expired h)
