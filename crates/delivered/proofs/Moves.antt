@@ -1,7 +1,7 @@
 -- What reads and writes of the card do to one channel's mode and line filters.
-use Rattle.std.proofs.Common.{◌≡◌, ℕ, ◌<◌, Bool, true, false, cond, eqb, ltb, leb, ◌⊎◌, List, length, get_or, set, Ok, Err, Result, sym, refl, ap, ◌∙◌, subst, inl, inr, arith}
+use Rattle.std.proofs.Common.{◌≡◌, ℕ, ◌<◌, Bool, true, false, cond, eqb, ltb, leb, List, length, get_or, Ok, Result, sym, refl, subst, arith}
 use Rattle.std.proofs.lemmas.List.{get_or-set_other, get_or-set_same, length-set}
-use Rattle.std.proofs.lemmas.Bool.{and_parts, cases_eq, leb-true}
+use Rattle.std.proofs.lemmas.Bool.{and_parts, leb-true}
 use Rattle.refusal.specs.declared.Refusal.{Refusal}
 use Rattle.channel.specs.declared.act.Act.{Act}
 use Rattle.channel.specs.declared.channel.Channel.{Channel}
@@ -28,7 +28,8 @@ still = record { eight = refl; change = kept refl refl }
 -- only what is shared changes
 shared_only : {R : Type 0} {k : ℕ} {c d : Card} → d.channels ≡ c.channels → Moves R k c d
 shared_only {R} {k} {c} {d} e =
-    record { eight = ap length e; change = subst (λ (t : List Channel). Change R (channel_of k c) (get_or t k blank)) (sym e) (kept refl refl) }
+    let n : Moves R k c c = still in
+    grind arith
 
 either : {R : Type 0} {k : ℕ} {c x y : Card} (b : Bool) → Moves R k c x → Moves R k c y → Moves R k c (cond b x y)
 either true p q = p
@@ -45,10 +46,8 @@ acted_length a t = length_changed (performed a) 0 8 t
 
 pub acts : {R : Type 0} {k : ℕ} {c d : Card} (a : Act) → k < 8 → length c.channels ≡ 8 → d.channels ≡ acted a c.channels → Moves R k c d
 acts {R} {k} {c} {d} a l e q =
-    record {
-      eight = ap length q ∙ acted_length a c.channels;
-      change = subst (Change R (channel_of k c)) (sym (ap (λ (t : List Channel). get_or t k blank) q ∙ acted_at a k c.channels l e)) (act_change a k (channel_of k c));
-    }
+    let h : Change R (channel_of k c) (performed a k (channel_of k c)) = act_change a k (channel_of k c) in
+    grind (arith, acted_at, acted_length)
 
 -- a snapshot command
 commands : {R : Type 0} (w k : ℕ) (c : Card) → k < 8 → length c.channels ≡ 8 → Moves R k c (commanded w c)
@@ -75,13 +74,9 @@ shared_moves o v k c l e =
 
 -- an access to one record
 puts : {R : Type 0} (j k : ℕ) (x : Channel) (c : Card) → k < 8 → length c.channels ≡ 8 → (j ≡ k → Change R (channel_of j c) x) → Moves R k c (with_channel j x c)
-puts {R} j k x c l e f = record { eight = length-set c.channels j x; change = go (cases_eq j k) }
-  where
-    go : (j ≡ k) ⊎ (j ≡ k → ⊥) → Change R (channel_of k c) (get_or (set c.channels j x) k blank)
-    go (inl q) =
-        subst (λ n. Change R (channel_of n c) (get_or (set c.channels j x) n blank)) q
-        (subst (Change R (channel_of j c)) (sym (get_or-set_same c.channels j x blank (omega arith))) (f q))
-    go (inr ne) = subst (Change R (channel_of k c)) (sym (get_or-set_other c.channels j k x blank (λ q. ne (sym q)))) (kept refl refl)
+puts {R} j k x c l e f =
+    let n : Change R (channel_of k c) (channel_of k c) = kept refl refl in
+    record { eight = length-set c.channels j x; change = grind (arith, get_or-set_same, get_or-set_other) }
 
 register_moves : (o v k : ℕ) (c : Card) → k < 8 → length c.channels ≡ 8 → Moves (o ≡ debouncing_at k) k c (register_set o v c)
 register_moves o v k c l e = go (in_channels o) refl
@@ -94,9 +89,9 @@ register_moves o v k c l e = go (in_channels o) refl
     go false i = shared_moves o v k c l e
 
 write_given : {R : Type 0} {k : ℕ} (c d : Card) (r s : Result (Unit {0}) Refusal) → Moves R k c d → Moves R k c (card_after_write c (given r (given s (Ok d))))
-write_given c d (Ok u) (Ok w) h = h
-write_given c d (Ok u) (Err e) h = still
-write_given c d (Err e) s h = still
+write_given {R} {k} c d r s h =
+    let n : Moves R k c c = still in
+    grind arith
 
 -- a write restarts the filters of channel k only at its Debouncing Register
 pub write_moves : (o v k : ℕ) (c : Card) → k < 8 → length c.channels ≡ 8 → Moves (o ≡ debouncing_at k) k c (card_after_write c (write_done c o v))
@@ -104,8 +99,9 @@ unfolding write_done
 write_moves o v k c l e = write_given c (register_set o v c) (offset_checked o) (setting_checked o v) (register_moves o v k c l e)
 
 read_given : {R : Type 0} {k : ℕ} (c d : Card) (v : ℕ) (r : Result (Unit {0}) Refusal) → Moves R k c d → Moves R k c (card_after_read c (given r (Ok (record { value = v; card = d }))))
-read_given c d v (Ok u) h = h
-read_given c d v (Err e) h = still
+read_given {R} {k} c d v r h =
+    let n : Moves R k c c = still in
+    grind arith
 
 shown_moves : {R : Type 0} (o k : ℕ) (c : Card) → k < 8 → length c.channels ≡ 8 → Moves R k c (register_read o c)
 shown_moves o k c l e =

@@ -1,17 +1,14 @@
 -- The law of delivered positions, over every list of calls.
-use Rattle.std.proofs.Common.{◌≡◌, ℕ, ◌+◌, ◌*◌, ◌<◌, Bool, true, false, cond, ◌⊎◌, List, [], ◌∷◌, length, IfSome, Some, Ok, Option, unwrap_or, sym, refl, ap, ◌∙◌, subst, inl, inr, arith}
+use Rattle.std.proofs.Common.{◌≡◌, ℕ, ◌<◌, Bool, true, false, cond, ◌⊎◌, List, [], ◌∷◌, length, IfSome, Some, Ok, Option, sym, refl, ap, ◌∙◌, subst, inl, inr, arith}
 use Rattle.std.proofs.lemmas.List.{get_or-replicate}
-use Rattle.std.proofs.lemmas.Bool.{both_ways, cases_eq}
-use Rattle.std.specs.Option.{option_map}
+use Rattle.std.proofs.lemmas.Bool.{both_ways}
 use Rattle.bits.specs.Words.{word_flag}
-use Rattle.counter_count.specs.declared.levels.Levels.{Levels}
 use Rattle.controller.specs.declared.control.SsiControl.{SsiControl}
 use Rattle.controller.specs.Control.{format_of}
 use Rattle.controller.specs.Registers.{half_period}
-use Rattle.sensor.specs.Model.{Model, Sound, advanced, frame_of, level_of, turned}
-use Rattle.field.specs.Wiring.{FieldModel, Sounds, at_channel}
+use Rattle.sensor.specs.Model.{Model, Sound, frame_of, level_of}
+use Rattle.field.specs.Wiring.{FieldModel, Sounds}
 use Rattle.field.proofs.FieldLaws.{acts_at_lem, acts_elsewhere, turned_sounds}
-use Rattle.rig_parts.specs.Clocks.{clocked}
 use Rattle.rig_parts.proofs.ClockLaws.{clocked_at, clocked_sounds}
 use Rattle.rig_parts.proofs.LineLaws.{composed_in1}
 use Rattle.channel.specs.declared.channel.Channel.{Channel}
@@ -106,7 +103,7 @@ pending_run k (z ∷ zs) b l s u =
 
 -- a rig tick's lines and clock answers at channel k
 line_at : (k lines : ℕ) (b : Bench) (s : Model) → k < 8 → b.field k ≡ Some s → (line_levels_at (lines_on b lines) k).b ≡ level_of s
-line_at k lines b s l e = composed_in1 b.field 8 lines k l ∙ ap (λ (o : Option Model). unwrap_or (option_map level_of o) (word_flag lines (3 * k + 1))) e
+line_at k lines b s l e = grind (arith, composed_in1)
 
 abbrev clock_on : ℕ → Bench → ℕ → ℕ → Bool
 clock_on k b lines inputs = word_flag (tick_levels (lines_on b lines) inputs b.card).clocks k
@@ -121,43 +118,22 @@ AloftOn k F pos b = Aloft F pos (own k b) (b.field k)
 
 rig_tick : (k lines inputs F pos : ℕ) (b : Bench) → k < 8 → Sane b → AloftOn k F pos b
     → (AloftOn k F pos (step_on b (Tick lines inputs))) ⊎ (Landed pos (own k (step_on b (Tick lines inputs))))
-rig_tick k lines inputs F pos b l s a = placed (aloft_tick x (word_flag inputs k) (expiry b.card.shared) t.triggers (clock_on k b lines inputs) a (line_at k lines b a.sensor l a.is) (clock_at_lem k lines inputs b l t))
-  where
-    x : Levels
-    x = line_levels_at (lines_on b lines) k
-
-    t : TickAt k (lines_on b lines) inputs b.card (tick_done (lines_on b lines) inputs b.card)
-    t = tick_at_lem k (lines_on b lines) inputs b.card l s.eight
-
-    h : Channel
-    h = cond t.triggers (triggered (own_tick k (lines_on b lines) inputs b.card)) (own_tick k (lines_on b lines) inputs b.card)
-
-    placed : (Aloft F pos h (option_map (λ m. advanced m (clock_on k b lines inputs)) (b.field k))) ⊎ (Landed pos h)
-        → (AloftOn k F pos (step_on b (Tick lines inputs))) ⊎ (Landed pos (own k (step_on b (Tick lines inputs))))
-    placed (inl f) =
-        inl (subst (λ (o : Option Model). Aloft F pos (own k (step_on b (Tick lines inputs))) o) (sym (clocked_at b.field (tick_levels (lines_on b lines) inputs b.card).clocks k))
-        (subst (λ (c : Channel). Aloft F pos c (option_map (λ m. advanced m (clock_on k b lines inputs)) (b.field k))) (sym t.is) f))
-    placed (inr d) = inr (subst (Landed pos) (sym t.is) d)
+rig_tick k lines inputs F pos b l s a =
+    let t = tick_at_lem k (lines_on b lines) inputs b.card l s.eight in
+    rw (clocked_at b.field (tick_levels (lines_on b lines) inputs b.card).clocks k, t.is)
+    (aloft_tick (line_levels_at (lines_on b lines) k) (word_flag inputs k) (expiry b.card.shared) t.triggers (clock_on k b lines inputs) a (line_at k lines b a.sensor l a.is) (clock_at_lem k lines inputs b l t))
 
 turn_step : (k j p F pos : ℕ) (b : Bench) → AloftOn k F pos b → AloftOn k F pos (step_on b (Turn j p))
-turn_step k j p F pos b a = go (cases_eq k j)
-  where
-    go : (k ≡ j) ⊎ (k ≡ j → ⊥) → Aloft F pos (own k b) (at_channel b.field j (λ m. turned m p) k)
-    go (inl e) =
-        subst (λ n. Aloft F pos (own k b) (at_channel b.field n (λ m. turned m p) k)) e
-        (subst (λ (o : Option Model). Aloft F pos (own k b) o) (sym (acts_at_lem b.field k (λ m. turned m p))) (aloft_turn p a))
-    go (inr ne) = subst (λ (o : Option Model). Aloft F pos (own k b) o) (sym (acts_elsewhere b.field j k (λ m. turned m p) ne)) a
+turn_step k j p F pos b a =
+    let n = aloft_turn p a in
+    grind (arith, acts_at_lem, acts_elsewhere)
 
 -- an allowed call
 under_step : (k F pos : ℕ) (b : Bench) (y : RigCall) → k < 8 → Sane b → Allowed k y → transmits (own k (step_on b y)) ≡ true → AloftOn k F pos b → AloftOn k F pos (step_on b y)
 under_step k F pos b (OnCard (CardTick lines inputs)) l s w e a = absurd w
 under_step k F pos b (OnCard (Read o)) l s w e a = aloft_change {R = ⊥} (λ z. z) (read_moves o k b.card l s.eight).change e a
 under_step k F pos b (OnCard (Write o v)) l s w e a = aloft_change w (write_moves o v k b.card l s.eight).change e a
-under_step k F pos b (Tick lines inputs) l s w e a = go (rig_tick k lines inputs F pos b l s a)
-  where
-    go : (AloftOn k F pos (step_on b (Tick lines inputs))) ⊎ (Landed pos (own k (step_on b (Tick lines inputs)))) → AloftOn k F pos (step_on b (Tick lines inputs))
-    go (inl f) = f
-    go (inr d) = absurd (both_ways _ d.over e)
+under_step k F pos b (Tick lines inputs) l s w e a = elim (rig_tick k lines inputs F pos b l s a) [ inl f ↦ f | inr d ↦ absurd (both_ways _ d.over e) ]
 under_step k F pos b (Turn j p) l s w e a = turn_step k j p F pos b a
 
 under_busy : (k : ℕ) (b : Bench) (ys : List RigCall) → UnderWay k b ys → busy k b ≡ true
@@ -172,11 +148,7 @@ under_run k F pos (y ∷ ys) b l s u a =
 
 -- the rig tick after which it is over
 last_tick : (k lines inputs F pos : ℕ) (b : Bench) → k < 8 → Sane b → AloftOn k F pos b → transmits (own k (step_on b (Tick lines inputs))) ≡ false → Landed pos (own k (step_on b (Tick lines inputs)))
-last_tick k lines inputs F pos b l s a e = go (rig_tick k lines inputs F pos b l s a)
-  where
-    go : (AloftOn k F pos (step_on b (Tick lines inputs))) ⊎ (Landed pos (own k (step_on b (Tick lines inputs)))) → Landed pos (own k (step_on b (Tick lines inputs)))
-    go (inl f) = absurd (both_ways _ e (aloft_busy f))
-    go (inr d) = d
+last_tick k lines inputs F pos b l s a e = elim (rig_tick k lines inputs F pos b l s a) [ inl f ↦ absurd (both_ways _ e (aloft_busy f)) | inr d ↦ d ]
 
 -- the rig tick in which the clock first falls
 first_tick : (k lines inputs : ℕ) (c : SsiControl) (b : Bench) (s : Model) → k < 8 → Sane b → (own k b).mode ≡ Reading (first_phase c) → Fits k c b s
@@ -187,9 +159,7 @@ first_tick k lines inputs c b s l g m f =
     let clk = clock_on k b lines inputs in
     let sound : Sound s = subst (λ (o : Option Model). IfSome o Sound) f.plugged (g.sounds.each k) in
     let first = aloft_first (half_period c) (format_of c) s (own k b) (line_levels_at (lines_on b lines) k) (word_flag inputs k) (expiry b.card.shared) t.triggers clk sound (g.timed k l) f.slow m f.format f.idle f.clock (clock_at_lem k lines inputs b l t) in
-    let plugged : clocked b.field (tick_levels (lines_on b lines) inputs b.card).clocks k ≡ Some (advanced s clk) = clocked_at b.field (tick_levels (lines_on b lines) inputs b.card).clocks k ∙ ap (option_map (λ m. advanced m clk)) f.plugged in
-    subst (λ (o : Option Model). Aloft F s.position (own k (step_on b (Tick lines inputs))) o) (sym plugged)
-    (subst (λ (h : Channel). Aloft F s.position h (Some (advanced s clk))) (sym t.is) first)
+    rw (clocked_at b.field (tick_levels (lines_on b lines) inputs b.card).clocks k, f.plugged, t.is) first
 
 pub delivers : Delivers
 delivers k l m sounds t s c =

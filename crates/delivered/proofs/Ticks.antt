@@ -1,5 +1,5 @@
 -- A tick of the card, seen at one channel.
-use Rattle.std.proofs.Common.{◌≡◌, ℕ, zero, suc, ◌+◌, ◌*◌, ◌/◌, ◌%◌, ◌^◌, ◌<◌, ◌≤◌, Bool, true, false, cond, ◌&&◌, eqb, List, [], ◌∷◌, length, get_or, sym, ap, ◌∙◌, subst, arith}
+use Rattle.std.proofs.Common.{◌≡◌, ℕ, zero, suc, ◌+◌, ◌*◌, ◌/◌, ◌%◌, ◌^◌, ◌<◌, ◌≤◌, Bool, true, false, cond, ◌&&◌, eqb, List, [], ◌∷◌, length, get_or, sym, ap, ◌∙◌, arith}
 use Rattle.std.proofs.lemmas.Nat.{shr-shr}
 use Rattle.std.proofs.lemmas.Grind.{common_steps}
 use Rattle.bits.specs.Words.{bit_at, word_flag}
@@ -10,7 +10,6 @@ use Rattle.controller.specs.declared.phase.Phase.{Phase}
 use Rattle.controller.specs.declared.registers.Ssi.{Ssi}
 use Rattle.controller.specs.Phase.{active_in, busy_in, phase_ticked}
 use Rattle.controller.specs.Registers.{phase_requested, requested as ssi_requested, ticked as ssi_ticked}
-use Rattle.channel.specs.declared.act.Act.TheVariants.{Snapshot}
 use Rattle.channel.specs.declared.act.Bit.TheVariants.{Clock}
 use Rattle.channel.specs.declared.act.Share.TheVariants.{Single}
 use Rattle.channel.specs.declared.channel.Channel.{Channel}
@@ -24,7 +23,7 @@ use Rattle.table.proofs.Loops.{get_d_changed, length_changed}
 use Rattle.card.specs.Calls.{Card, channels_ticked, tick_done, tick_levels}
 use Rattle.card.specs.Records.{blank, channel_of}
 use Rattle.card.specs.Shared.{expiry}
-use Rattle.card.specs.Snapshots.{timer_triggered, triggered as all_triggered}
+use Rattle.card.specs.Snapshots.{timer_triggered}
 use Rattle.delivered.proofs.Changes.{Started, Timed}
 use Rattle.delivered.proofs.Moves.{acted_at, acted_length}
 
@@ -89,24 +88,16 @@ pub record TickAt (k lines inputs : ℕ) (c d : Card) : Type 0 where
   pub triggers : Bool
   pub is : channel_of k d ≡ cond triggers (triggered (own_tick k lines inputs c)) (own_tick k lines inputs c)
 
-trigger_at : (b : Bool) (k lines inputs : ℕ) (c d : Card) → k < 8 → length d.channels ≡ 8 → channel_of k d ≡ own_tick k lines inputs c → TickAt k lines inputs c (cond b (all_triggered d) d)
-unfolding performed
-trigger_at true k lines inputs c d l e q =
-    record { eight = acted_length Snapshot d.channels ∙ e; triggers = true; is = acted_at Snapshot k d.channels l e ∙ ap triggered q }
-trigger_at false k lines inputs c d l e q = record { eight = e; triggers = false; is = q }
-
 pub tick_at_lem : (k lines inputs : ℕ) (c : Card) → k < 8 → length c.channels ≡ 8 → TickAt k lines inputs c (tick_done lines inputs c)
-unfolding tick_done
+unfolding tick_done performed
 tick_at_lem k lines inputs c l e =
     let d = channels_ticked lines inputs c in
-    trigger_at (expiry c.shared && d.shared.timer_triggers) k lines inputs c d l (ticked_length lines inputs c ∙ e) (ticked_at k lines inputs c l e)
-
-timed_trigger : (b : Bool) (h : Channel) → Timed h → Timed (cond b (triggered h) h)
-timed_trigger b h s = grind arith
+    let at = ticked_at k lines inputs c l e in
+    let same = ticked_length lines inputs c in
+    record { eight = grind (arith, acted_length); triggers = expiry c.shared && d.shared.timer_triggers; is = grind (arith, acted_at) }
 
 pub timed_card_tick : (k lines inputs : ℕ) (c d : Card) → TickAt k lines inputs c d → Timed (channel_of k c) → Timed (channel_of k d)
-timed_card_tick k lines inputs c d t s =
-    subst Timed (sym t.is) (timed_trigger t.triggers (own_tick k lines inputs c) (timed_tick (line_levels_at lines k) (word_flag inputs k) (expiry c.shared) (channel_of k c) s))
+timed_card_tick k lines inputs c d t s = grind (arith, timed_tick)
 
 -- bit k of the clock answers is channel k's clock
 bit_most : (b : Bool) → bit_at 0 b ≤ 1
