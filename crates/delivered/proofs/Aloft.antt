@@ -51,16 +51,8 @@ aloft_change {R} {F} {pos} {h} {d} {o} n c b a =
 pub aloft_turn : {F pos : ℕ} {h : Channel} {o : Option Model} (q : ℕ) → Aloft F pos h o → Aloft F pos h (option_map (λ m. turned m q) o)
 aloft_turn {F} {pos} {h} {o} q a =
     let s = a.sensor in
-    record {
-      sensor = model s.constants (turned_to s.constants s.position q) s.phase s.clock;
-      half = a.half;
-      phase = a.phase;
-      is = ap (option_map (λ m. turned m q)) a.is ∙ ap Some (turn_keeps s.constants s.position q s.phase s.clock);
-      mode = a.mode;
-      flies = a.flies;
-      small = a.small;
-      reads = a.reads;
-    }
+    let kept = turn_keeps s.constants s.position q s.phase s.clock in
+    record { sensor = model s.constants (turned_to s.constants s.position q) s.phase s.clock; half = a.half; phase = a.phase; is = rw a.is (ap Some kept); mode = a.mode; flies = a.flies; small = a.small; reads = a.reads }
 
 busy_active : (p : Phase) → busy_in p ≡ true → active_in p ≡ true
 busy_active p b = grind arith

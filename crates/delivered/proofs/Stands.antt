@@ -71,7 +71,7 @@ own k b = channel_of k b.card
 -- a call after which there is a transmission, and before which there was none
 tick_started : (k lines inputs : ℕ) (c d : Card) → TickAt k lines inputs c d → transmits (channel_of k c) ≡ false → transmits (channel_of k d) ≡ true → Started (channel_of k d)
 tick_started k lines inputs c d t q =
-    subst (λ h. transmits h ≡ true → Started h) (sym t.is) (tick_then t.triggers (line_levels_at lines k) (word_flag inputs k) (expiry c.shared) (channel_of k c) q)
+    rw t.is (tick_then t.triggers (line_levels_at lines k) (word_flag inputs k) (expiry c.shared) (channel_of k c) q)
 
 starts : (k : ℕ) (b : Bench) (x : RigCall) → k < 8 → Sane b → transmits (own k b) ≡ false → transmits (own k (step_on b x)) ≡ true → Started (own k (step_on b x))
 starts k b (OnCard (CardTick lines inputs)) l s q e = tick_started k lines inputs b.card _ (tick_at_lem k lines inputs b.card l s.eight) q e

@@ -1,5 +1,5 @@
 -- A tick of the card, seen at one channel.
-use Rattle.std.proofs.Common.{◌≡◌, ℕ, zero, suc, ◌+◌, ◌*◌, ◌/◌, ◌%◌, ◌^◌, ◌<◌, ◌≤◌, Bool, true, false, cond, ◌&&◌, eqb, List, [], ◌∷◌, length, get_or, sym, ap, ◌∙◌, arith}
+use Rattle.std.proofs.Common.{◌≡◌, ℕ, zero, suc, ◌+◌, ◌*◌, ◌/◌, ◌%◌, ◌^◌, ◌<◌, Bool, true, false, cond, ◌&&◌, eqb, List, [], ◌∷◌, length, get_or, sym, ap, ◌∙◌, arith}
 use Rattle.std.proofs.lemmas.Nat.{shr-shr}
 use Rattle.std.proofs.lemmas.Grind.{common_steps}
 use Rattle.bits.specs.Words.{bit_at, word_flag}
@@ -100,15 +100,12 @@ pub timed_card_tick : (k lines inputs : ℕ) (c d : Card) → TickAt k lines inp
 timed_card_tick k lines inputs c d t s = grind (arith, timed_tick)
 
 -- bit k of the clock answers is channel k's clock
-bit_most : (b : Bool) → bit_at 0 b ≤ 1
-bit_most b = grind arith
-
 first_flag : (b : Bool) (w : ℕ) → word_flag (bit_at 0 b + 2 ^ 1 * w) 0 ≡ b
 first_flag b w = grind (arith, common_steps)
 
 next_flag : (b : Bool) (w k : ℕ) → word_flag (bit_at 0 b + 2 ^ 1 * w) (suc k) ≡ word_flag w k
 next_flag b w k =
-    let half : (bit_at 0 b + 2 ^ 1 * w) / 2 ≡ w = omega (arith, bit_most b) in
+    let half : (bit_at 0 b + 2 ^ 1 * w) / 2 ≡ w = grind arith in
     let e : (bit_at 0 b + 2 ^ 1 * w) / 2 ^ (1 + k) ≡ w / 2 ^ k = sym (shr-shr (bit_at 0 b + 2 ^ 1 * w) 1 k) ∙ ap (λ n. n / 2 ^ k) half in
     let s : suc k ≡ 1 + k = omega arith in
     ap (λ n. eqb ((bit_at 0 b + 2 ^ 1 * w) / 2 ^ n % 2) 1) s ∙ ap (λ n. eqb (n % 2) 1) e
