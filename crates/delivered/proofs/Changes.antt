@@ -1,35 +1,23 @@
 -- What an access does to a channel's mode and line filters.
-use Rattle.std.proofs.Common.{◌≡◌, ℕ, ◌*◌, ◌<◌, ◌≤◌, Bool, true, false, cond, eqb, sym, refl, subst, arith}
-use Rattle.std.proofs.lemmas.Bool.{cond_both, eqb-true, eqb-false}
-use Rattle.bits.specs.Words.{word_field}
+use Rattle.std.proofs.Common.{◌≡◌, ℕ, ◌<◌, Bool, true, false, cond, eqb, refl, arith}
+use Rattle.std.proofs.lemmas.Bool.{eqb-true}
+use Rattle.bits.specs.Words.{word_flag}
 use Rattle.filter.specs.declared.debounce.Debounce.{Debounce}
-use Rattle.filter.specs.declared.debounce.TimeBase.{TimeBase}
-use Rattle.filter.specs.declared.debounce.TimeBase.TheVariants.{Ns30, Ns100, Us1, Ms1}
-use Rattle.filter.specs.Debounces.{base_ticks, debounce_of, period_of}
-use Rattle.controller.specs.declared.control.Start.{Start}
-use Rattle.controller.specs.declared.control.Start.TheVariants.{Request, Timer}
+use Rattle.filter.specs.Debounces.{debounce_of, period_of}
+use Rattle.controller.specs.declared.control.SsiControl.{SsiControl}
 use Rattle.controller.specs.declared.phase.Phase.{Phase}
-use Rattle.controller.specs.declared.phase.Phase.TheVariants.{Waiting, Clocking, Recovering}
-use Rattle.controller.specs.declared.registers.Ssi.{Ssi}
-use Rattle.controller.specs.Phase.{busy_in}
-use Rattle.controller.specs.Registers.{phase_requested, requested as ssi_requested, with_busy}
-use Rattle.parts.specs.declared.snapshot.Snapshot.{Snapshot as Part}
-use Rattle.parts.specs.Snapshots.{completed}
+use Rattle.controller.specs.declared.phase.Phase.TheVariants.{Clocking}
+use Rattle.controller.specs.Control.{format_of}
+use Rattle.controller.specs.Registers.{half_period, phase_requested, requested as ssi_requested, started}
 use Rattle.channel.specs.declared.act.Act.{Act}
-use Rattle.channel.specs.declared.act.Act.TheVariants.{Control, Load, ClearSnapshot, Snapshot, DebounceInput, Output, EnableInterrupts, AcknowledgeInterrupts, EnableEdges, AcknowledgeEdges, TestOutput}
+use Rattle.channel.specs.declared.act.Act.TheVariants.{Control, Load, ClearSnapshot, Snapshot}
 use Rattle.channel.specs.declared.channel.Channel.{Channel}
 use Rattle.channel.specs.declared.lines.Lines.{Lines}
-use Rattle.channel.specs.declared.mode.Mode.{Mode}
-use Rattle.channel.specs.declared.mode.Mode.TheVariants.{Off, Counter as Counting, Ssi as Reading}
-use Rattle.channel.specs.declared.mode.OffCode.{OffCode}
-use Rattle.channel.specs.declared.mode.OffCode.TheVariants.{Zeros, Ones}
-use Rattle.channel.specs.Lines.{lines_restarted}
-use Rattle.channel.specs.Modes.{became_counter_as, became_off, became_ssi_as, departed_as, mode_written}
-use Rattle.channel.specs.Records.{with_snapshot}
-use Rattle.channel.specs.Registers.{data_taken_as, debounce_written, register_taken, register_written, is_taking_requests}
-use Rattle.channel.specs.Shares.{loaded_as, performed}
-use Rattle.channel.specs.Snapshots.{snapped_as, ssi_snapped_as, transmits, triggered}
-use Rattle.channel.specs.Ticks.{requested, requested_as}
+use Rattle.channel.specs.declared.mode.Mode.TheVariants.{Ssi as Reading}
+use Rattle.channel.specs.Registers.{debounce_written, register_taken, register_written, is_taking_requests}
+use Rattle.channel.specs.Shares.{performed}
+use Rattle.channel.specs.Snapshots.{transmits, triggered}
+use Rattle.channel.specs.Ticks.{requested}
 
 -- the line filters of a channel and their debouncing settings
 pub record Filtering : Type 0 where
@@ -39,144 +27,6 @@ pub record Filtering : Type 0 where
 abbrev pub filtering : Channel → Filtering
 filtering c = record { lines = c.lines; debounce = c.debounce }
 
--- the filters after a write v of the Debouncing Register
-abbrev pub filtering_by : ℕ → Channel → Filtering
-filtering_by v c = record { lines = lines_restarted (period_of (debounce_of v)) c.lines; debounce = debounce_of v }
-
--- What becomes of a channel's mode and of its line filters: they stay; a request meets the controller; there is no transmission
--- afterwards; or, where R holds, the filters restart.
-pub data Change (R : Type 0) (c d : Channel) : Type 0 where
-  kept : d.mode ≡ c.mode → filtering d ≡ filtering c → Change R c d
-  asked : (i : Ssi) (p : Phase) → c.mode ≡ Reading p → d.mode ≡ Reading (phase_requested i p) → d.ssi.control ≡ i.control → filtering d ≡ filtering c → Change R c d
-  ended : transmits d ≡ false → filtering d ≡ filtering c → Change R c d
-  restarted : R → (v : ℕ) → d.mode ≡ c.mode → filtering d ≡ filtering_by v c → Change R c d
-
-pub none : {R : Type 0} {c : Channel} → Change R c c
-none = kept refl refl
-
-either : {R : Type 0} {c x y : Channel} (b : Bool) → Change R c x → Change R c y → Change R c (cond b x y)
-either true p q = p
-either false p q = q
-
--- a change after which there is another snapshot part
-snapshot_too : {R : Type 0} {c d : Channel} (s : Part) → Change R c d → Change R c (with_snapshot s d)
-snapshot_too s (kept m l) = kept m l
-snapshot_too s (asked i p e m o l) = asked i p e m o l
-snapshot_too s (ended m l) = ended m l
-snapshot_too s (restarted r v m l) = restarted r v m l
-
--- a request leaves the settings
-requested_control : (p : Phase) (i : Ssi) → (ssi_requested p i).control ≡ i.control
-unfolding ssi_requested
-requested_control Waiting i = cond_both (eqb i.control.rate 0) i (with_busy i false) (λ j. j.control ≡ i.control) (λ _. refl) (λ _. refl)
-requested_control (Clocking t) i = refl
-requested_control (Recovering n) i = refl
-
-request_as : {R : Type 0} (m : Mode) (c : Channel) → c.mode ≡ m → Change R c (requested_as m c)
-request_as (Off z) c e = none
-request_as Counting c e = none
-request_as (Reading p) c e = asked c.ssi p e refl (requested_control p c.ssi) refl
-
-pub request_change : {R : Type 0} (c : Channel) → Change R c (requested c)
-request_change c = request_as c.mode c refl
-
--- a snapshot trigger
-ssi_snapped_lem : {R : Type 0} (s : Start) (c : Channel) → Change R c (ssi_snapped_as s c)
-ssi_snapped_lem Request c = snapshot_too _ (request_change c)
-ssi_snapped_lem Timer c = kept refl refl
-
-snapped_as_lem : {R : Type 0} (m : Mode) (c : Channel) → Change R c (snapped_as m c)
-snapped_as_lem (Off z) c = kept refl refl
-snapped_as_lem Counting c = kept refl refl
-snapped_as_lem (Reading p) c = ssi_snapped_lem c.ssi.control.start c
-
-pub trigger_change : {R : Type 0} (c : Channel) → Change R c (triggered c)
-trigger_change c = either c.snapshot.enabled (snapped_as_lem c.mode c) none
-
--- the modes
-departed_lines : (m : Mode) (c : Channel) → filtering (departed_as m c) ≡ filtering c
-departed_lines (Off z) c = refl
-departed_lines Counting c = refl
-departed_lines (Reading p) c = cond_both (busy_in p) (with_snapshot (completed 0 c.snapshot) c) c (λ x. filtering x ≡ filtering c) (λ _. refl) (λ _. refl)
-
-off_change : {R : Type 0} (z : OffCode) (c : Channel) → Change R c (became_off z c)
-off_change z c = ended refl (departed_lines c.mode c)
-
-ssi_as : {R : Type 0} (m : Mode) (c : Channel) → Change R c (became_ssi_as m c)
-ssi_as (Off z) c = ended refl (departed_lines c.mode c)
-ssi_as Counting c = ended refl (departed_lines c.mode c)
-ssi_as (Reading p) c = none
-
-counter_as : {R : Type 0} (m : Mode) (c : Channel) → Change R c (became_counter_as m c)
-counter_as (Off z) c = ended refl (departed_lines c.mode c)
-counter_as Counting c = none
-counter_as (Reading p) c = ended refl (departed_lines c.mode c)
-
-mode_change : {R : Type 0} (n : ℕ) (c : Channel) → Change R c (mode_written n c)
-mode_change n c =
-    either (eqb n 0) (off_change Zeros c) (either (eqb n 1) (ssi_as c.mode c) (either (eqb n 2) (counter_as c.mode c) (off_change Ones c)))
-
--- a load
-loaded_as_lem : (m : Mode) (c : Channel) → ((loaded_as m c).mode ≡ c.mode) × (filtering (loaded_as m c) ≡ filtering c)
-loaded_as_lem (Off z) c = (refl, refl)
-loaded_as_lem Counting c = (refl, refl)
-loaded_as_lem (Reading p) c = (refl, refl)
-
-pub load_keeps : (w k : ℕ) (c : Channel) → ((performed (Load w) k c).mode ≡ c.mode) × (filtering (performed (Load w) k c) ≡ filtering c)
-unfolding performed
-load_keeps w k c = cond_both _ (loaded_as c.mode c) c (λ x. (x.mode ≡ c.mode) × (filtering x ≡ filtering c)) (λ _. loaded_as_lem c.mode c) (λ _. (refl, refl))
-
-pub clear_keeps : (k : ℕ) (c : Channel) → ((performed ClearSnapshot k c).mode ≡ c.mode) × (filtering (performed ClearSnapshot k c) ≡ filtering c)
-unfolding performed
-clear_keeps k c = (refl, refl)
-
--- what a write of a shared register asks
-pub act_change : {R : Type 0} (a : Act) (k : ℕ) (c : Channel) → Change R c (performed a k c)
-unfolding performed
-act_change (Control w) k c = snapshot_too _ (mode_change (word_field w (2 * k) 2) c)
-act_change (Load w) k c = kept (load_keeps w k c).0 (load_keeps w k c).1
-act_change ClearSnapshot k c = kept refl refl
-act_change Snapshot k c = trigger_change c
-act_change (DebounceInput w p) k c = kept refl refl
-act_change (Output w) k c = kept refl refl
-act_change (EnableInterrupts w) k c = kept refl refl
-act_change (AcknowledgeInterrupts w) k c = kept refl refl
-act_change (EnableEdges w) k c = kept refl refl
-act_change (AcknowledgeEdges w) k c = kept refl refl
-act_change (TestOutput w) k c = kept refl refl
-
--- a write of one of the channel's registers: that of the Debouncing Register restarts the filters
-pub write_change : (o v : ℕ) (c : Channel) → Change (o ≡ 28) c (register_written o v c)
-unfolding register_written
-write_change o v c =
-    either (eqb o 0) (kept refl refl) (either (eqb o 8) (kept refl refl) (either (eqb o 12) (kept refl refl) (either (eqb o 16) (kept refl refl) (
-    either (eqb o 20) (kept refl refl) (either (eqb o 24) (either _ (kept refl refl) none) (at_debounce (eqb o 28) refl))))))
-  where
-    at_debounce : (b : Bool) → eqb o 28 ≡ b → Change (o ≡ 28) c (cond b (debounce_written v c) (cond (eqb o 32) (cond (is_taking_requests c) (requested c) c) c))
-    at_debounce true e = restarted (eqb-true o 28 e) v refl refl
-    at_debounce false e = either (eqb o 32) (either (is_taking_requests c) (request_change c) none) none
-
-data_as : {R : Type 0} (m : Mode) (c : Channel) → Change R c (data_taken_as m c)
-data_as (Off z) c = none
-data_as Counting c = kept refl refl
-data_as (Reading p) c = none
-
-pub read_change : {R : Type 0} (o : ℕ) (c : Channel) → Change R c (register_taken o c)
-unfolding register_taken
-read_change o c = either (eqb o 32) (data_as c.mode c) none
-
--- a period is at least one tick
-base_some : (b : TimeBase) (t : ℕ) → 1 ≤ t → 0 < t * base_ticks b
-base_some Ns30 t h = omega arith
-base_some Ns100 t h = omega arith
-base_some Us1 t h = omega arith
-base_some Ms1 t h = omega arith
-
-period_some : (d : Debounce) → 0 < period_of d
-period_some d =
-    cond_both (eqb d.time 0) 1 (d.time * base_ticks d.base) (λ n. 0 < n) (λ _. omega arith)
-    (λ e. base_some d.base d.time (omega (arith, eqb-false d.time 0 e)))
-
 -- the filters sample with the period of the settings, and their phase is below it
 abbrev pub Paced : Filtering → Type 0
 Paced f = (f.lines.timing.phase < f.lines.timing.period) × (f.lines.timing.period ≡ period_of f.debounce)
@@ -184,8 +34,84 @@ Paced f = (f.lines.timing.phase < f.lines.timing.period) × (f.lines.timing.peri
 abbrev pub Timed : Channel → Type 0
 Timed c = Paced (filtering c)
 
-pub timed_change : {R : Type 0} {c d : Channel} → Change R c d → Timed c → Timed d
-timed_change (kept m l) h = subst Paced (sym l) h
-timed_change (asked i p e m o l) h = subst Paced (sym l) h
-timed_change (ended m l) h = subst Paced (sym l) h
-timed_change (restarted r v m l) h = subst Paced (sym l) (period_some (debounce_of v), refl)
+-- the phase that an accepted request leaves
+abbrev pub first_phase : SsiControl → Phase
+first_phase c = Clocking (started (half_period c) (format_of c))
+
+abbrev pub Started : Channel → Type 0
+Started d = d.mode ≡ Reading (first_phase d.ssi.control)
+
+-- What an access leaves of a channel: the mode, if a transmission is under way before and after it; a transmission that it begins has
+-- the channel's settings; the line filters, unless R holds, and their pace.
+pub record Change (R : Type 0) (c d : Channel) : Type 0 where
+  pub mode : transmits c ≡ true → transmits d ≡ true → d.mode ≡ c.mode
+  pub starts : transmits c ≡ false → transmits d ≡ true → Started d
+  pub lines : (R → ⊥) → filtering d ≡ filtering c
+  pub timed : Timed c → Timed d
+
+pub kept : {R : Type 0} {c d : Channel} → d.mode ≡ c.mode → filtering d ≡ filtering c → Change R c d
+kept m l = grind arith
+
+either : {R : Type 0} {c x y : Channel} (b : Bool) → Change R c x → Change R c y → Change R c (cond b x y)
+either true p q = p
+either false p q = q
+
+request_change : {R : Type 0} (c : Channel) → Change R c (requested c)
+unfolding phase_requested ssi_requested
+request_change c = grind arith
+
+trigger_change : {R : Type 0} (c : Channel) → Change R c (triggered c)
+unfolding phase_requested ssi_requested
+trigger_change c = grind arith
+
+mode_change : {R : Type 0} (n k : ℕ) (c : Channel) → Change R c (performed (Control n) k c)
+unfolding performed
+mode_change n k c = grind arith
+
+-- what a write of a shared register asks
+pub act_change : {R : Type 0} (a : Act) (k : ℕ) (c : Channel) → Change R c (performed a k c)
+unfolding performed
+act_change (Control w) k c = mode_change w k c
+act_change Snapshot k c = trigger_change c
+act_change _ k c = grind arith
+
+-- a load, then the snapshot cleared or not, then a trigger or none
+abbrev loaded : ℕ → ℕ → Channel → Channel
+loaded w k c = cond (word_flag w 9) (performed ClearSnapshot k (performed (Load w) k c)) (performed (Load w) k c)
+
+abbrev pub command : ℕ → ℕ → Channel → Channel
+command w k c = cond (word_flag w 8) (performed Snapshot k (loaded w k c)) (loaded w k c)
+
+loaded_keeps : (w k : ℕ) (c : Channel) → ((loaded w k c).mode ≡ c.mode) × (filtering (loaded w k c) ≡ filtering c)
+unfolding performed
+loaded_keeps w k c = grind arith
+
+after_kept : {R : Type 0} (c d e : Channel) → d.mode ≡ c.mode → filtering d ≡ filtering c → Change R d e → Change R c e
+after_kept c d e m l h = grind arith
+
+pub command_change : {R : Type 0} (w k : ℕ) (c : Channel) → Change R c (command w k c)
+command_change w k c =
+    let p = loaded_keeps w k c in
+    after_kept c (loaded w k c) (command w k c) p.0 p.1 (either (word_flag w 8) (act_change Snapshot k (loaded w k c)) (kept refl refl))
+
+-- a period is at least one tick
+period_some : (d : Debounce) → 0 < period_of d
+period_some d = grind arith
+
+restart_change : {R : Type 0} (v : ℕ) (c : Channel) → R → Change R c (debounce_written v c)
+restart_change {R} v c r = record { mode = λ q e. refl; starts = λ q e. grind arith; lines = λ n. absurd (n r); timed = λ t. (period_some (debounce_of v), refl) }
+
+-- a write of one of the channel's registers: that of the Debouncing Register restarts the filters
+pub write_change : {R : Type 0} (o v : ℕ) (c : Channel) → (o ≡ 28 → R) → Change R c (register_written o v c)
+unfolding register_written
+write_change {R} o v c r =
+    either (eqb o 0) (kept refl refl) (either (eqb o 8) (kept refl refl) (either (eqb o 12) (kept refl refl) (either (eqb o 16) (kept refl refl) (
+    either (eqb o 20) (kept refl refl) (either (eqb o 24) (either _ (kept refl refl) (kept refl refl)) (at_debounce (eqb o 28) refl))))))
+  where
+    at_debounce : (b : Bool) → eqb o 28 ≡ b → Change R c (cond b (debounce_written v c) (cond (eqb o 32) (cond (is_taking_requests c) (requested c) c) c))
+    at_debounce true e = restart_change v c (r (eqb-true o 28 e))
+    at_debounce false e = either (eqb o 32) (either (is_taking_requests c) (request_change c) (kept refl refl)) (kept refl refl)
+
+pub read_change : {R : Type 0} (o : ℕ) (c : Channel) → Change R c (register_taken o c)
+unfolding register_taken
+read_change o c = grind arith

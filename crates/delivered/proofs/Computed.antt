@@ -1,5 +1,5 @@
 -- The example, computed.
-use Rattle.std.proofs.Common.{◌≡◌, ℕ, zero, suc, Bool, true, false, cond, ◌&&◌, eqb, replicate, IfSome, Some, None, refl, arith}
+use Rattle.std.proofs.Common.{◌≡◌, ℕ, zero, suc, Bool, true, cond, ◌&&◌, eqb, replicate, IfSome, Some, None, refl, arith}
 use Rattle.std.proofs.lemmas.Bool.{and_parts, ne_eqb}
 use Rattle.filter.specs.Filters.{samples_in, ticked}
 use Rattle.frame.specs.Layout.{word_of_frame, reading_of}
@@ -34,9 +34,9 @@ unfolding in_range
 at_two_sound = record { ranged = refl; below = omega arith; within = omega arith }
 
 sound_or_none : (a b : Bool) → IfSome (cond a (Some at_two) (cond b (Some at_two) None)) Sound
-sound_or_none true b = at_two_sound
-sound_or_none false true = at_two_sound
-sound_or_none false false = tt
+sound_or_none a b =
+    let s = at_two_sound in
+    grind arith
 
 pub delivers_two : DeliversTwo
 unfolding plugged samples_in ticked word_of_frame reading_of phase_ticked control_written requested phase_requested completion ssi_ticked advanced level_of turned at_channel clocked composed register_shown register_taken register_written bit_of performed share_of channel_ticked acted gathered table_ticked powered_on read_done tick_done tick_levels write_done

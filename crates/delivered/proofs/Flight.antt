@@ -1,8 +1,8 @@
 -- One line: a sensor's frame, the filter of the data line and the controller, tick by tick.
-use Rattle.std.proofs.Common.{◌≡◌, ℕ, zero, suc, ◌+◌, ◌-◌, ◌*◌, ◌/◌, ◌%◌, ◌^◌, ◌<◌, ◌≤◌, Bool, true, false, cond, not, ◌⊎◌, sym, refl, ap, ◌∙◌, subst, ap₂, inl, inr, div-le_self, div-one, add-one, arith}
+use Rattle.std.proofs.Common.{◌≡◌, ℕ, zero, suc, ◌+◌, ◌-◌, ◌*◌, ◌/◌, ◌^◌, ◌<◌, ◌≤◌, Bool, true, false, not, ◌⊎◌, sym, ap, ◌∙◌, subst, inl, inr, div-le_self, div-one, add-one, arith}
 use native.Mathlib.Nat.{div-eq_of_lt}
 use Rattle.std.proofs.lemmas.Nat.{shr-shr}
-use Rattle.std.proofs.lemmas.Bool.{cases_eq, eqb-true, eqb-false, lt-ltb, ne_eqb}
+use Rattle.std.proofs.lemmas.Bool.{cases_eq, lt-ltb}
 use Rattle.bits.specs.Words.{word_flag}
 use Rattle.filter.specs.declared.samples.Samples.{Samples}
 use Rattle.filter.specs.declared.timing.FilterTiming.{FilterTiming}
@@ -42,9 +42,7 @@ pub data Flight (c : Constants) (F H : ℕ) (t : FilterTiming) (s : Samples) : P
 
 -- what is in flight is under way
 pub flight_busy : {c : Constants} {F H : ℕ} {t : FilterTiming} {s : Samples} {p : Phase} {q : Sensing} {k : Bool} → Flight c F H t s p q k → busy_in p ≡ true
-flight_busy (low r j w bad a b d) = refl
-flight_busy (high r j w m bad a b d e) = refl
-flight_busy (settling w bad q k) = refl
+flight_busy f = grind arith
 
 -- the tick of completion with the line at x: the registers take what the frame says
 pub record Lands (c : Constants) (F : ℕ) (x : Bool) (p : Phase) : Type 0 where
@@ -60,11 +58,10 @@ slow_tick H t a = record { sound = tick_sound t a.sound; half = omega (arith, a.
 
 -- one bit more of a frame
 bits_more : (F j : ℕ) → F < 2 ^ 40 → pushed (F / 2 ^ (j + 1)) (word_flag F j) ≡ F / 2 ^ j
-bits_more F j h = go (word_flag F j) refl
-  where
-    go : (b : Bool) → word_flag F j ≡ b → F / 2 ^ (j + 1) * 2 % 2 ^ 64 + cond b 1 0 ≡ F / 2 ^ j
-    go true e = omega (arith, shr-shr F j 1, eqb-true _ _ e, div-le_self F (2 ^ (j + 1)))
-    go false e = omega (arith, shr-shr F j 1, eqb-false _ _ e, div-le_self F (2 ^ (j + 1)))
+bits_more F j h =
+    let a = shr-shr F j 1 in
+    let b = div-le_self F (2 ^ (j + 1)) in
+    grind arith
 
 -- what a tick leads to
 abbrev pub Goes : Constants → ℕ → ℕ → FilterTiming → Samples → Sensing → Bool → ℕ → Bool → Phase → Phase → Type 0
@@ -73,63 +70,43 @@ Goes c F H t s q k pos x p p' = (FlightAfter c F H t s q k pos p') ⊎ (Lands c 
 low_tick : (c : Constants) (F H r j w pos : ℕ) (t : FilterTiming) (s : Samples) (bad x : Bool) → r + j ≡ bits_of c → w < H → Slow H t
     → FlightAfter c F H t s (Sending F r) false pos (phase_ticked x (Clocking (transmission c.format H false r w (F / 2 ^ j) bad)))
 low_tick c F H r j (suc w) pos t s bad x a b d =
-    subst (FlightAfter c F H t s (Sending F r) false pos) (sym (waits c.format H false r (suc w) _ bad x (omega arith)))
-    (low r j (suc w - 1) bad a (omega arith) d)
+    rw (waits c.format H false r (suc w) (F / 2 ^ j) bad x (omega arith)) (low r j (suc w - 1) bad a (omega arith) d)
 low_tick c F H r j zero pos t s bad x a b d = go (cases_eq r (bits_of c))
   where
     go : (r ≡ bits_of c) ⊎ (r ≡ bits_of c → ⊥) → FlightAfter c F H t s (Sending F r) false pos (phase_ticked x (Clocking (transmission c.format H false r 0 (F / 2 ^ j) bad)))
     go (inl e) =
         let z : j ≡ 0 = omega arith in
-        let whole : F / 2 ^ j ≡ F = ap (λ n. F / 2 ^ n) z ∙ div-one F in
-        let last : phase_ticked x (Clocking (transmission c.format H false r 0 (F / 2 ^ j) bad)) ≡ Clocking (transmission c.format H true (suc (bits_of c)) 499 F bad) =
-        rises_last c.format H r (F / 2 ^ j) bad x (omega arith) (omega arith)
-        ∙ ap₂ (λ n v. Clocking (transmission c.format H true (suc n) 499 v bad)) e whole in
-        subst (FlightAfter c F H t s (Sending F r) false pos) (sym last) (settling 499 bad _ _)
+        rw (rises_last c.format H r (F / 2 ^ j) bad x (omega arith) (omega arith), z, div-one F, e) (settling 499 bad _ _)
     go (inr ne) =
-        let i = j - 1 in
-        let one : j ≡ i + 1 = omega (arith, ne) in
-        let next : phase_ticked x (Clocking (transmission c.format H false r 0 (F / 2 ^ j) bad)) ≡ Clocking (transmission c.format H true (suc r) (H - 1) (F / 2 ^ (i + 1)) bad) =
-        rises c.format H r (F / 2 ^ j) bad x (omega (arith, ne))
-        ∙ ap (λ n. Clocking (transmission c.format H true (suc r) (H - 1) (F / 2 ^ n) bad)) one in
-        let bit : next_phase c pos (Sending F r) false true ≡ Sending F (suc r) = rw (lt-ltb r (bits_of c) (omega (arith, ne)), add-one r) in
-        subst (FlightAfter c F H t s (Sending F r) false pos) (sym next)
-        (subst (λ q. Flight c F H t s (Clocking (transmission c.format H true (suc r) (H - 1) (F / 2 ^ (i + 1)) bad)) q true) (sym bit)
-        (high r i (H - 1) 0 bad (omega arith) (omega arith) d (held_none _ t s d.sound)))
+        let one : j ≡ j - 1 + 1 = omega (arith, ne) in
+        rw (rises c.format H r (F / 2 ^ j) bad x (omega (arith, ne)), one, lt-ltb r (bits_of c) (omega (arith, ne)), add-one r)
+        (high r (j - 1) (H - 1) 0 bad (omega arith) (omega arith) d (held_none _ t s d.sound))
 
 high_tick : (c : Constants) (F H r j w m pos : ℕ) (t : FilterTiming) (s : Samples) (bad : Bool) → F < 2 ^ 40 → suc r + j ≡ bits_of c → m + w + 1 ≡ H → Slow H t → Held (word_flag F j) (m + 1) t s
     → FlightAfter c F H t s (Sending F (suc r)) true pos (phase_ticked s.level (Clocking (transmission c.format H true (suc r) w (F / 2 ^ (j + 1)) bad)))
 high_tick c F H r j (suc w) m pos t s bad f a b d h =
-    subst (FlightAfter c F H t s (Sending F (suc r)) true pos) (sym (waits c.format H true (suc r) (suc w) _ bad s.level (omega arith)))
-    (high r j (suc w - 1) (m + 1) bad a (omega arith) d h)
+    rw (waits c.format H true (suc r) (suc w) (F / 2 ^ (j + 1)) bad s.level (omega arith)) (high r j (suc w - 1) (m + 1) bad a (omega arith) d h)
 high_tick c F H r j zero m pos t s bad f a b d h =
     let seen : s.level ≡ word_flag F j = held_level (word_flag F j) (m + 1) t s h (omega (arith, d.half)) in
-    let next : phase_ticked s.level (Clocking (transmission c.format H true (suc r) 0 (F / 2 ^ (j + 1)) bad)) ≡ Clocking (transmission c.format H false (suc r) (H - 1) (F / 2 ^ j) bad) =
-    falls c.format H (suc r) (F / 2 ^ (j + 1)) bad s.level (omega arith) (omega arith)
-    ∙ ap (λ v. Clocking (transmission c.format H false (suc r) (H - 1) v bad)) (ap (pushed (F / 2 ^ (j + 1))) seen ∙ bits_more F j f) in
-    subst (FlightAfter c F H t s (Sending F (suc r)) true pos) (sym next) (low (suc r) j (H - 1) bad a (omega arith) d)
+    rw (falls c.format H (suc r) (F / 2 ^ (j + 1)) bad s.level (omega arith) (omega arith), seen, bits_more F j f) (low (suc r) j (H - 1) bad a (omega arith) d)
 
 settling_tick : (c : Constants) (F H w pos : ℕ) (t : FilterTiming) (s : Samples) (q : Sensing) (k bad x : Bool)
     → Goes c F H t s q k pos x (Clocking (transmission c.format H true (suc (bits_of c)) w F bad)) (phase_ticked x (Clocking (transmission c.format H true (suc (bits_of c)) w F bad)))
-settling_tick c F H (suc w) pos t s q k bad x =
-    inl (subst (FlightAfter c F H t s q k pos) (sym (waits c.format H true (suc (bits_of c)) (suc w) F bad x (omega arith)))
-    (settling (suc w - 1) bad _ _))
-settling_tick c F H zero pos t s q k bad x =
-    inr (record { phase = ends c.format H F bad x; word = λ i. ap (λ (n : Ssi). n.word) (ends_in c.format H F bad x i) })
+settling_tick c F H (suc w) pos t s q k bad x = inl (rw (waits c.format H true (suc (bits_of c)) (suc w) F bad x (omega arith)) (settling (suc w - 1) bad _ _))
+settling_tick c F H zero pos t s q k bad x = inr (record { phase = ends c.format H F bad x; word = λ i. ap (λ (n : Ssi). n.word) (ends_in c.format H F bad x i) })
 
 -- the bit that the sensor shows
 shows_bit : (c : Constants) (F r j : ℕ) → suc r + j ≡ bits_of c → phase_level c (Sending F (suc r)) ≡ word_flag F j
 shows_bit c F r j a =
     let e : bits_of c - suc r ≡ j = omega arith in
-    rw (ne_eqb (suc r) 0 (λ z. omega arith)) (ap (word_flag F) e)
+    grind arith
 
 -- one tick of filter, controller and sensor: the transmission goes on, or it completes with the frame
 pub flight_tick : {c : Constants} {F H : ℕ} {t : FilterTiming} {s : Samples} {p : Phase} {q : Sensing} {k : Bool} (pos : ℕ) → F < 2 ^ 40 → Flight c F H t s p q k
     → Goes c F H (ticked t) (line_filtered (samples_in t) (phase_level c q) s) q k pos (line_filtered (samples_in t) (phase_level c q) s).level p (phase_ticked (line_filtered (samples_in t) (phase_level c q) s).level p)
 flight_tick {c} {F} {H} {t} {s} pos f (low r j w bad a b d) = inl (low_tick c F H r j w pos (ticked t) _ bad _ a b (slow_tick H t d))
 flight_tick {c} {F} {H} {t} {s} pos f (high r j w m bad a b d h) =
-    let held : Held (word_flag F j) (m + 1) (ticked t) (line_filtered (samples_in t) (phase_level c (Sending F (suc r))) s) =
-    subst (λ x. Held (word_flag F j) (m + 1) (ticked t) (line_filtered (samples_in t) x s)) (sym (shows_bit c F r j a)) (held_tick (word_flag F j) m t s h) in
-    inl (high_tick c F H r j w m pos (ticked t) _ bad f a b (slow_tick H t d) held)
+    inl (rw (shows_bit c F r j a) (high_tick c F H r j w m pos (ticked t) _ bad f a b (slow_tick H t d) (held_tick (word_flag F j) m t s h)))
 flight_tick {c} {F} {H} {t} {s} pos f (settling w bad q k) = settling_tick c F H w pos (ticked t) _ q k bad _
 
 -- the tick in which the clock first falls, with the sensor idle and its clock last seen high

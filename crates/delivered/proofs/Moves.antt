@@ -1,25 +1,21 @@
 -- What reads and writes of the card do to one channel's mode and line filters.
-use Rattle.std.proofs.Common.{◌≡◌, ℕ, ◌<◌, Bool, true, false, cond, eqb, ltb, leb, ◌⊎◌, List, length, get_or, set, Ok, Err, Result, sym, refl, ap, ◌∙◌, subst, inl, inr, arith}
+use Rattle.std.proofs.Common.{◌≡◌, ℕ, ◌<◌, Bool, true, false, cond, eqb, ltb, leb, List, length, get_or, Ok, Result, sym, refl, subst, arith}
 use Rattle.std.proofs.lemmas.List.{get_or-set_other, get_or-set_same, length-set}
-use Rattle.std.proofs.lemmas.Bool.{and_parts, cases_eq, leb-true}
+use Rattle.std.proofs.lemmas.Bool.{and_parts, leb-true}
 use Rattle.refusal.specs.declared.Refusal.{Refusal}
-use Rattle.bits.specs.Words.{word_flag}
 use Rattle.channel.specs.declared.act.Act.{Act}
-use Rattle.channel.specs.declared.act.Act.TheVariants.{ClearSnapshot, Load, Snapshot}
 use Rattle.channel.specs.declared.channel.Channel.{Channel}
-use Rattle.filter.specs.Debounces.{debounce_of, period_of}
-use Rattle.channel.specs.Lines.{lines_restarted}
 use Rattle.channel.specs.Registers.{register_written}
 use Rattle.channel.specs.Shares.{performed}
 use Rattle.table.specs.Tables.{acted}
 use Rattle.table.proofs.Loops.{get_d_changed, length_changed}
 use Rattle.card.specs.Calls.{Card, card_after_read, card_after_write, given, read_done, write_done}
-use Rattle.card.specs.Records.{blank, channel_of, with_channel, with_table}
+use Rattle.card.specs.Records.{blank, channel_of, with_channel}
 use Rattle.card.specs.Registers.{channel_at, in_channels, in_snapshots, offset_checked, place_at, register_read, register_set, setting_checked, snapshot_at}
 use Rattle.card.specs.SharedRegisters.{shared_written}
-use Rattle.card.specs.Snapshots.{commanded, snapshots_cleared, triggered, triggered_if}
+use Rattle.card.specs.Snapshots.{commanded}
 use Rattle.delivered.specs.Delivery.{debouncing_at}
-use Rattle.delivered.proofs.Changes.{Change, Filtering, filtering, kept, asked, ended, restarted, none, act_change, clear_keeps, load_keeps, read_change, write_change}
+use Rattle.delivered.proofs.Changes.{Change, kept, act_change, command, command_change, read_change, write_change}
 
 -- the table keeps its length, and the record of channel k changes as above
 pub record Moves (R : Type 0) (k : ℕ) (c d : Card) : Type 0 where
@@ -27,12 +23,13 @@ pub record Moves (R : Type 0) (k : ℕ) (c d : Card) : Type 0 where
   pub change : Change R (channel_of k c) (channel_of k d)
 
 pub still : {R : Type 0} {k : ℕ} {c : Card} → Moves R k c c
-still = record { eight = refl; change = none }
+still = record { eight = refl; change = kept refl refl }
 
 -- only what is shared changes
 shared_only : {R : Type 0} {k : ℕ} {c d : Card} → d.channels ≡ c.channels → Moves R k c d
 shared_only {R} {k} {c} {d} e =
-    record { eight = ap length e; change = subst (λ (t : List Channel). Change R (channel_of k c) (get_or t k blank)) (sym e) none }
+    let n : Moves R k c c = still in
+    grind arith
 
 either : {R : Type 0} {k : ℕ} {c x y : Card} (b : Bool) → Moves R k c x → Moves R k c y → Moves R k c (cond b x y)
 either true p q = p
@@ -49,64 +46,14 @@ acted_length a t = length_changed (performed a) 0 8 t
 
 pub acts : {R : Type 0} {k : ℕ} {c d : Card} (a : Act) → k < 8 → length c.channels ≡ 8 → d.channels ≡ acted a c.channels → Moves R k c d
 acts {R} {k} {c} {d} a l e q =
-    record {
-      eight = ap length q ∙ acted_length a c.channels;
-      change = subst (Change R (channel_of k c)) (sym (ap (λ (t : List Channel). get_or t k blank) q ∙ acted_at a k c.channels l e)) (act_change a k (channel_of k c));
-    }
+    let h : Change R (channel_of k c) (performed a k (channel_of k c)) = act_change a k (channel_of k c) in
+    grind (arith, acted_at, acted_length)
 
--- the filters after a write v of the Debouncing Register, from those before it
-abbrev restarted_by : ℕ → Filtering → Filtering
-restarted_by v f = record { lines = lines_restarted (period_of (debounce_of v)) f.lines; debounce = debounce_of v }
-
--- a change that follows one which keeps mode and filters
-after_kept : {R : Type 0} (c d e : Channel) → d.mode ≡ c.mode → filtering d ≡ filtering c → Change R d e → Change R c e
-after_kept c d e m l (kept n f) = kept (n ∙ m) (f ∙ l)
-after_kept c d e m l (asked i p a n o f) = asked i p (sym m ∙ a) n o (f ∙ l)
-after_kept c d e m l (ended n f) = ended n (f ∙ l)
-after_kept c d e m l (restarted r v n f) = restarted r v (n ∙ m) (f ∙ ap (restarted_by v) l)
-
-record Keeps (k : ℕ) (c d : Card) : Type 0 where
-  eight : length d.channels ≡ length c.channels
-  mode : (channel_of k d).mode ≡ (channel_of k c).mode
-  lines : filtering (channel_of k d) ≡ filtering (channel_of k c)
-
-loads_keep : (w k : ℕ) (c : Card) → k < 8 → length c.channels ≡ 8 → Keeps k c (with_table (acted (Load w) c.channels) c)
-loads_keep w k c l e =
-    let at = acted_at (Load w) k c.channels l e in
-    record {
-      eight = acted_length (Load w) c.channels;
-      mode = ap (λ (x : Channel). x.mode) at ∙ (load_keeps w k (channel_of k c)).0;
-      lines = ap filtering at ∙ (load_keeps w k (channel_of k c)).1;
-    }
-
-clear_keep : (one : Bool) (k : ℕ) (c : Card) → k < 8 → length c.channels ≡ 8 → Keeps k c (snapshots_cleared one c)
-clear_keep false k c l e = record { eight = refl; mode = refl; lines = refl }
-clear_keep true k c l e =
-    let at = acted_at ClearSnapshot k c.channels l e in
-    record {
-      eight = acted_length ClearSnapshot c.channels;
-      mode = ap (λ (x : Channel). x.mode) at ∙ (clear_keeps k (channel_of k c)).0;
-      lines = ap filtering at ∙ (clear_keeps k (channel_of k c)).1;
-    }
-
-keeps_then : {R : Type 0} {k : ℕ} {c d e : Card} → Keeps k c d → Moves R k d e → Moves R k c e
-keeps_then {R} {k} {c} {d} {e} p q =
-    record { eight = q.eight ∙ p.eight; change = after_kept (channel_of k c) (channel_of k d) (channel_of k e) p.mode p.lines q.change }
-
--- a snapshot trigger
-pub triggers : {R : Type 0} (k : ℕ) (c : Card) → k < 8 → length c.channels ≡ 8 → Moves R k c (triggered c)
-triggers k c l e = acts Snapshot l e refl
-
-trigger_if : {R : Type 0} (one : Bool) (k : ℕ) (c : Card) → k < 8 → length c.channels ≡ 8 → Moves R k c (triggered_if one c)
-trigger_if one k c l e = either one (triggers k c l e) still
-
+-- a snapshot command
 commands : {R : Type 0} (w k : ℕ) (c : Card) → k < 8 → length c.channels ≡ 8 → Moves R k c (commanded w c)
-commands w k c l e =
-    let c₁ = with_table (acted (Load w) c.channels) c in
-    let a : Keeps k c c₁ = loads_keep w k c l e in
-    let c₂ = snapshots_cleared (word_flag w 9) c₁ in
-    let b : Keeps k c₁ c₂ = clear_keep (word_flag w 9) k c₁ l (a.eight ∙ e) in
-    keeps_then a (keeps_then b (trigger_if (word_flag w 8) k c₂ l (b.eight ∙ a.eight ∙ e)))
+commands {R} w k c l e =
+    let at : channel_of k (commanded w c) ≡ command w k (channel_of k c) = grind (arith, acted_at, acted_length) in
+    record { eight = grind (arith, acted_length); change = subst (Change R (channel_of k c)) (sym at) (command_change w k (channel_of k c)) }
 
 -- a write of a shared register
 shared_moves : {R : Type 0} (o v k : ℕ) (c : Card) → k < 8 → length c.channels ≡ 8 → Moves R k c (shared_written o v c)
@@ -127,20 +74,9 @@ shared_moves o v k c l e =
 
 -- an access to one record
 puts : {R : Type 0} (j k : ℕ) (x : Channel) (c : Card) → k < 8 → length c.channels ≡ 8 → (j ≡ k → Change R (channel_of j c) x) → Moves R k c (with_channel j x c)
-puts {R} j k x c l e f = record { eight = length-set c.channels j x; change = go (cases_eq j k) }
-  where
-    go : (j ≡ k) ⊎ (j ≡ k → ⊥) → Change R (channel_of k c) (get_or (set c.channels j x) k blank)
-    go (inl q) =
-        subst (λ n. Change R (channel_of n c) (get_or (set c.channels j x) n blank)) q
-        (subst (Change R (channel_of j c)) (sym (get_or-set_same c.channels j x blank (omega arith))) (f q))
-    go (inr ne) = subst (Change R (channel_of k c)) (sym (get_or-set_other c.channels j k x blank (λ q. ne (sym q)))) none
-
--- a change of which more is allowed
-allow : {R S : Type 0} {c d : Channel} → (R → S) → Change R c d → Change S c d
-allow f (kept m l) = kept m l
-allow f (asked i p e m o l) = asked i p e m o l
-allow f (ended m l) = ended m l
-allow f (restarted r v m l) = restarted (f r) v m l
+puts {R} j k x c l e f =
+    let n : Change R (channel_of k c) (channel_of k c) = kept refl refl in
+    record { eight = length-set c.channels j x; change = grind (arith, get_or-set_same, get_or-set_other) }
 
 register_moves : (o v k : ℕ) (c : Card) → k < 8 → length c.channels ≡ 8 → Moves (o ≡ debouncing_at k) k c (register_set o v c)
 register_moves o v k c l e = go (in_channels o) refl
@@ -149,13 +85,13 @@ register_moves o v k c l e = go (in_channels o) refl
     here i a p = omega (arith, leb-true 16 o (and_parts (leb 16 o) (ltb o 336) i).0, a, p)
 
     go : (b : Bool) → in_channels o ≡ b → Moves (o ≡ debouncing_at k) k c (cond b (with_channel (channel_at o) (register_written (place_at o) v (channel_of (channel_at o) c)) c) (shared_written o v c))
-    go true i = puts (channel_at o) k _ c l e (λ q. allow (here i q) (write_change (place_at o) v (channel_of (channel_at o) c)))
+    go true i = puts (channel_at o) k _ c l e (λ q. write_change (place_at o) v (channel_of (channel_at o) c) (here i q))
     go false i = shared_moves o v k c l e
 
 write_given : {R : Type 0} {k : ℕ} (c d : Card) (r s : Result (Unit {0}) Refusal) → Moves R k c d → Moves R k c (card_after_write c (given r (given s (Ok d))))
-write_given c d (Ok u) (Ok w) h = h
-write_given c d (Ok u) (Err e) h = still
-write_given c d (Err e) s h = still
+write_given {R} {k} c d r s h =
+    let n : Moves R k c c = still in
+    grind arith
 
 -- a write restarts the filters of channel k only at its Debouncing Register
 pub write_moves : (o v k : ℕ) (c : Card) → k < 8 → length c.channels ≡ 8 → Moves (o ≡ debouncing_at k) k c (card_after_write c (write_done c o v))
@@ -163,8 +99,9 @@ unfolding write_done
 write_moves o v k c l e = write_given c (register_set o v c) (offset_checked o) (setting_checked o v) (register_moves o v k c l e)
 
 read_given : {R : Type 0} {k : ℕ} (c d : Card) (v : ℕ) (r : Result (Unit {0}) Refusal) → Moves R k c d → Moves R k c (card_after_read c (given r (Ok (record { value = v; card = d }))))
-read_given c d v (Ok u) h = h
-read_given c d v (Err e) h = still
+read_given {R} {k} c d v r h =
+    let n : Moves R k c c = still in
+    grind arith
 
 shown_moves : {R : Type 0} (o k : ℕ) (c : Card) → k < 8 → length c.channels ≡ 8 → Moves R k c (register_read o c)
 shown_moves o k c l e =

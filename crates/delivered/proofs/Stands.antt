@@ -1,17 +1,14 @@
 -- The law of delivered positions, over every list of calls.
-use Rattle.std.proofs.Common.{◌≡◌, ℕ, ◌+◌, ◌*◌, ◌<◌, Bool, true, false, cond, ◌⊎◌, List, [], ◌∷◌, length, IfSome, Some, Ok, Option, unwrap_or, sym, refl, ap, ◌∙◌, subst, inl, inr, arith}
+use Rattle.std.proofs.Common.{◌≡◌, ℕ, ◌<◌, Bool, true, false, cond, ◌⊎◌, List, [], ◌∷◌, length, IfSome, Some, Ok, Option, sym, refl, ap, ◌∙◌, subst, inl, inr, arith}
 use Rattle.std.proofs.lemmas.List.{get_or-replicate}
-use Rattle.std.proofs.lemmas.Bool.{cases_eq}
-use Rattle.std.specs.Option.{option_map}
+use Rattle.std.proofs.lemmas.Bool.{both_ways}
 use Rattle.bits.specs.Words.{word_flag}
-use Rattle.counter_count.specs.declared.levels.Levels.{Levels}
 use Rattle.controller.specs.declared.control.SsiControl.{SsiControl}
 use Rattle.controller.specs.Control.{format_of}
 use Rattle.controller.specs.Registers.{half_period}
-use Rattle.sensor.specs.Model.{Model, Sound, advanced, frame_of, level_of, turned}
-use Rattle.field.specs.Wiring.{FieldModel, Sounds, at_channel}
+use Rattle.sensor.specs.Model.{Model, Sound, frame_of, level_of}
+use Rattle.field.specs.Wiring.{FieldModel, Sounds}
 use Rattle.field.proofs.FieldLaws.{acts_at_lem, acts_elsewhere, turned_sounds}
-use Rattle.rig_parts.specs.Clocks.{clocked}
 use Rattle.rig_parts.proofs.ClockLaws.{clocked_at, clocked_sounds}
 use Rattle.rig_parts.proofs.LineLaws.{composed_in1}
 use Rattle.channel.specs.declared.channel.Channel.{Channel}
@@ -28,11 +25,10 @@ use Rattle.rig.specs.declared.calls.RigCall.{RigCall}
 use Rattle.rig.specs.declared.calls.RigCall.TheVariants.{Card as OnCard, Tick, Turn}
 use Rattle.rig.specs.Benches.{Bench, lines_on, new_bench, run_on, step_on}
 use Rattle.delivered.specs.Delivery.{Allowed, Delivers, Fits, NoTick, Pending, UnderWay, asked_on, begun_on, busy, ended_on, nearly_on, quiet_on, ready_on, settings_of}
-use Rattle.delivered.proofs.Changes.{Timed, timed_change}
+use Rattle.delivered.proofs.Changes.{Started, Timed, first_phase}
 use Rattle.delivered.proofs.Moves.{Moves, read_moves, write_moves}
-use Rattle.delivered.proofs.Ticks.{TickAt, clock_answer, own_tick, tick_at_lem, timed_card_tick}
-use Rattle.delivered.proofs.Starts.{Started, change_starts, contrary, first_phase, tick_then}
-use Rattle.delivered.proofs.Aloft.{Aloft, Landed, aloft_busy, aloft_change, aloft_first, aloft_tick, aloft_turn, mode_kept}
+use Rattle.delivered.proofs.Ticks.{TickAt, clock_answer, own_tick, tick_then, tick_at_lem, timed_card_tick}
+use Rattle.delivered.proofs.Aloft.{Aloft, Landed, aloft_busy, aloft_change, aloft_first, aloft_tick, aloft_turn}
 use Rattle.delivered.proofs.Shown.{busy_is, data_is}
 
 -- what holds after every list of calls: eight records, filters whose phase is below their period, sound sensors
@@ -47,7 +43,7 @@ sane_new m s = record { eight = refl; timed = λ k l. subst Timed (sym (get_or-r
 
 sane_moves : {R : ℕ → Type 0} (b : Bench) (d : Card) → Sane b → ((k : ℕ) → k < 8 → Moves (R k) k b.card d) → Sane (record { card = d; field = b.field })
 sane_moves b d s f =
-    record { eight = (f 0 (omega arith)).eight ∙ s.eight; timed = λ k l. timed_change (f k l).change (s.timed k l); sounds = s.sounds }
+    record { eight = (f 0 (omega arith)).eight ∙ s.eight; timed = λ k l. (f k l).change.timed (s.timed k l); sounds = s.sounds }
 
 sane_tick : (b : Bench) (lines inputs : ℕ) (f : FieldModel) → Sane b → Sounds f → Sane (record { card = tick_done lines inputs b.card; field = f })
 sane_tick b lines inputs f s g =
@@ -75,20 +71,20 @@ own k b = channel_of k b.card
 -- a call after which there is a transmission, and before which there was none
 tick_started : (k lines inputs : ℕ) (c d : Card) → TickAt k lines inputs c d → transmits (channel_of k c) ≡ false → transmits (channel_of k d) ≡ true → Started (channel_of k d)
 tick_started k lines inputs c d t q =
-    subst (λ h. transmits h ≡ true → Started h) (sym t.is) (tick_then t.triggers (line_levels_at lines k) (word_flag inputs k) (expiry c.shared) (channel_of k c) q)
+    rw t.is (tick_then t.triggers (line_levels_at lines k) (word_flag inputs k) (expiry c.shared) (channel_of k c) q)
 
 starts : (k : ℕ) (b : Bench) (x : RigCall) → k < 8 → Sane b → transmits (own k b) ≡ false → transmits (own k (step_on b x)) ≡ true → Started (own k (step_on b x))
 starts k b (OnCard (CardTick lines inputs)) l s q e = tick_started k lines inputs b.card _ (tick_at_lem k lines inputs b.card l s.eight) q e
-starts k b (OnCard (Read o)) l s q e = change_starts (read_moves {R = ⊥} o k b.card l s.eight).change q e
-starts k b (OnCard (Write o v)) l s q e = change_starts (write_moves o v k b.card l s.eight).change q e
+starts k b (OnCard (Read o)) l s q e = (read_moves {R = ⊥} o k b.card l s.eight).change.starts q e
+starts k b (OnCard (Write o v)) l s q e = (write_moves o v k b.card l s.eight).change.starts q e
 starts k b (Tick lines inputs) l s q e = tick_started k (lines_on b lines) inputs b.card _ (tick_at_lem k (lines_on b lines) inputs b.card l s.eight) q e
-starts k b (Turn j p) l s q e = contrary e q
+starts k b (Turn j p) l s q e = absurd (both_ways _ q e)
 
 -- calls without a tick leave the controller as it is, while it is busy
 pending_step : (k : ℕ) (b : Bench) (z : RigCall) → k < 8 → Sane b → NoTick z → transmits (own k b) ≡ true → transmits (own k (step_on b z)) ≡ true → (own k (step_on b z)).mode ≡ (own k b).mode
 pending_step k b (OnCard (CardTick lines inputs)) l s n q e = absurd n
-pending_step k b (OnCard (Read o)) l s n q e = mode_kept (read_moves {R = ⊥} o k b.card l s.eight).change q e
-pending_step k b (OnCard (Write o v)) l s n q e = mode_kept (write_moves o v k b.card l s.eight).change q e
+pending_step k b (OnCard (Read o)) l s n q e = (read_moves {R = ⊥} o k b.card l s.eight).change.mode q e
+pending_step k b (OnCard (Write o v)) l s n q e = (write_moves o v k b.card l s.eight).change.mode q e
 pending_step k b (Tick lines inputs) l s n q e = absurd n
 pending_step k b (Turn j p) l s n q e = refl
 
@@ -107,7 +103,7 @@ pending_run k (z ∷ zs) b l s u =
 
 -- a rig tick's lines and clock answers at channel k
 line_at : (k lines : ℕ) (b : Bench) (s : Model) → k < 8 → b.field k ≡ Some s → (line_levels_at (lines_on b lines) k).b ≡ level_of s
-line_at k lines b s l e = composed_in1 b.field 8 lines k l ∙ ap (λ (o : Option Model). unwrap_or (option_map level_of o) (word_flag lines (3 * k + 1))) e
+line_at k lines b s l e = grind (arith, composed_in1)
 
 abbrev clock_on : ℕ → Bench → ℕ → ℕ → Bool
 clock_on k b lines inputs = word_flag (tick_levels (lines_on b lines) inputs b.card).clocks k
@@ -122,43 +118,22 @@ AloftOn k F pos b = Aloft F pos (own k b) (b.field k)
 
 rig_tick : (k lines inputs F pos : ℕ) (b : Bench) → k < 8 → Sane b → AloftOn k F pos b
     → (AloftOn k F pos (step_on b (Tick lines inputs))) ⊎ (Landed pos (own k (step_on b (Tick lines inputs))))
-rig_tick k lines inputs F pos b l s a = placed (aloft_tick x (word_flag inputs k) (expiry b.card.shared) t.triggers (clock_on k b lines inputs) a (line_at k lines b a.sensor l a.is) (clock_at_lem k lines inputs b l t))
-  where
-    x : Levels
-    x = line_levels_at (lines_on b lines) k
-
-    t : TickAt k (lines_on b lines) inputs b.card (tick_done (lines_on b lines) inputs b.card)
-    t = tick_at_lem k (lines_on b lines) inputs b.card l s.eight
-
-    h : Channel
-    h = cond t.triggers (triggered (own_tick k (lines_on b lines) inputs b.card)) (own_tick k (lines_on b lines) inputs b.card)
-
-    placed : (Aloft F pos h (option_map (λ m. advanced m (clock_on k b lines inputs)) (b.field k))) ⊎ (Landed pos h)
-        → (AloftOn k F pos (step_on b (Tick lines inputs))) ⊎ (Landed pos (own k (step_on b (Tick lines inputs))))
-    placed (inl f) =
-        inl (subst (λ (o : Option Model). Aloft F pos (own k (step_on b (Tick lines inputs))) o) (sym (clocked_at b.field (tick_levels (lines_on b lines) inputs b.card).clocks k))
-        (subst (λ (c : Channel). Aloft F pos c (option_map (λ m. advanced m (clock_on k b lines inputs)) (b.field k))) (sym t.is) f))
-    placed (inr d) = inr (subst (Landed pos) (sym t.is) d)
+rig_tick k lines inputs F pos b l s a =
+    let t = tick_at_lem k (lines_on b lines) inputs b.card l s.eight in
+    rw (clocked_at b.field (tick_levels (lines_on b lines) inputs b.card).clocks k, t.is)
+    (aloft_tick (line_levels_at (lines_on b lines) k) (word_flag inputs k) (expiry b.card.shared) t.triggers (clock_on k b lines inputs) a (line_at k lines b a.sensor l a.is) (clock_at_lem k lines inputs b l t))
 
 turn_step : (k j p F pos : ℕ) (b : Bench) → AloftOn k F pos b → AloftOn k F pos (step_on b (Turn j p))
-turn_step k j p F pos b a = go (cases_eq k j)
-  where
-    go : (k ≡ j) ⊎ (k ≡ j → ⊥) → Aloft F pos (own k b) (at_channel b.field j (λ m. turned m p) k)
-    go (inl e) =
-        subst (λ n. Aloft F pos (own k b) (at_channel b.field n (λ m. turned m p) k)) e
-        (subst (λ (o : Option Model). Aloft F pos (own k b) o) (sym (acts_at_lem b.field k (λ m. turned m p))) (aloft_turn p a))
-    go (inr ne) = subst (λ (o : Option Model). Aloft F pos (own k b) o) (sym (acts_elsewhere b.field j k (λ m. turned m p) ne)) a
+turn_step k j p F pos b a =
+    let n = aloft_turn p a in
+    grind (arith, acts_at_lem, acts_elsewhere)
 
 -- an allowed call
 under_step : (k F pos : ℕ) (b : Bench) (y : RigCall) → k < 8 → Sane b → Allowed k y → transmits (own k (step_on b y)) ≡ true → AloftOn k F pos b → AloftOn k F pos (step_on b y)
 under_step k F pos b (OnCard (CardTick lines inputs)) l s w e a = absurd w
 under_step k F pos b (OnCard (Read o)) l s w e a = aloft_change {R = ⊥} (λ z. z) (read_moves o k b.card l s.eight).change e a
 under_step k F pos b (OnCard (Write o v)) l s w e a = aloft_change w (write_moves o v k b.card l s.eight).change e a
-under_step k F pos b (Tick lines inputs) l s w e a = go (rig_tick k lines inputs F pos b l s a)
-  where
-    go : (AloftOn k F pos (step_on b (Tick lines inputs))) ⊎ (Landed pos (own k (step_on b (Tick lines inputs)))) → AloftOn k F pos (step_on b (Tick lines inputs))
-    go (inl f) = f
-    go (inr d) = contrary e d.over
+under_step k F pos b (Tick lines inputs) l s w e a = elim (rig_tick k lines inputs F pos b l s a) [ inl f ↦ f | inr d ↦ absurd (both_ways _ d.over e) ]
 under_step k F pos b (Turn j p) l s w e a = turn_step k j p F pos b a
 
 under_busy : (k : ℕ) (b : Bench) (ys : List RigCall) → UnderWay k b ys → busy k b ≡ true
@@ -173,11 +148,7 @@ under_run k F pos (y ∷ ys) b l s u a =
 
 -- the rig tick after which it is over
 last_tick : (k lines inputs F pos : ℕ) (b : Bench) → k < 8 → Sane b → AloftOn k F pos b → transmits (own k (step_on b (Tick lines inputs))) ≡ false → Landed pos (own k (step_on b (Tick lines inputs)))
-last_tick k lines inputs F pos b l s a e = go (rig_tick k lines inputs F pos b l s a)
-  where
-    go : (AloftOn k F pos (step_on b (Tick lines inputs))) ⊎ (Landed pos (own k (step_on b (Tick lines inputs)))) → Landed pos (own k (step_on b (Tick lines inputs)))
-    go (inl f) = contrary (aloft_busy f) e
-    go (inr d) = d
+last_tick k lines inputs F pos b l s a e = elim (rig_tick k lines inputs F pos b l s a) [ inl f ↦ absurd (both_ways _ e (aloft_busy f)) | inr d ↦ d ]
 
 -- the rig tick in which the clock first falls
 first_tick : (k lines inputs : ℕ) (c : SsiControl) (b : Bench) (s : Model) → k < 8 → Sane b → (own k b).mode ≡ Reading (first_phase c) → Fits k c b s
@@ -188,9 +159,7 @@ first_tick k lines inputs c b s l g m f =
     let clk = clock_on k b lines inputs in
     let sound : Sound s = subst (λ (o : Option Model). IfSome o Sound) f.plugged (g.sounds.each k) in
     let first = aloft_first (half_period c) (format_of c) s (own k b) (line_levels_at (lines_on b lines) k) (word_flag inputs k) (expiry b.card.shared) t.triggers clk sound (g.timed k l) f.slow m f.format f.idle f.clock (clock_at_lem k lines inputs b l t) in
-    let plugged : clocked b.field (tick_levels (lines_on b lines) inputs b.card).clocks k ≡ Some (advanced s clk) = clocked_at b.field (tick_levels (lines_on b lines) inputs b.card).clocks k ∙ ap (option_map (λ m. advanced m clk)) f.plugged in
-    subst (λ (o : Option Model). Aloft F s.position (own k (step_on b (Tick lines inputs))) o) (sym plugged)
-    (subst (λ (h : Channel). Aloft F s.position h (Some (advanced s clk))) (sym t.is) first)
+    rw (clocked_at b.field (tick_levels (lines_on b lines) inputs b.card).clocks k, f.plugged, t.is) first
 
 pub delivers : Delivers
 delivers k l m sounds t s c =

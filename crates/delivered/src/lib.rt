@@ -11,6 +11,7 @@ pub fn positions_delivered()
 {}
 
 /// A delivered position, computed: every premise of the law is met by a list of calls from power-on.
+#[tactic(auto, using(crate::proofs::Computed::delivers_two))]
 pub fn two_delivered()
     ensures { DeliversTwo }
 {}
