@@ -1,7 +1,7 @@
 -- The law of counts, call by call.
-use Rattle.std.proofs.Common.{◌≡◌, ℕ, ◌*◌, ◌%◌, ◌<◌, ◌≤◌, Bool, true, false, cond, not, ◌||◌, eqb, ltb, leb, List, [], ◌∷◌, get_or, set, Ok, Err, Result, sym, refl, ap, subst, ⊎_elim, arith}
+use Rattle.std.proofs.Common.{◌≡◌, ℕ, ◌*◌, ◌%◌, ◌<◌, ◌≤◌, Bool, true, false, cond, not, ◌||◌, eqb, ltb, leb, List, [], ◌∷◌, get_or, set, Ok, Err, Result, sym, refl, ap, ◌∙◌, subst, arith}
 use lib.ListN.{length-replicate, get_or-replicate}
-use Rattle.std.proofs.lemmas.Bool.{and_parts, cases_eq, leb-true, ne_eqb}
+use Rattle.std.proofs.lemmas.Bool.{and_parts, leb-true, ne_eqb}
 use Rattle.refusal.specs.declared.Refusal.{Refusal}
 use Rattle.refusal.specs.declared.Refusal.TheVariants.{Offset}
 use Rattle.bits.specs.Words.{word_field, word_flag}
@@ -19,37 +19,28 @@ use Rattle.runs.specs.Runs.{run, step}
 use Rattle.counts.specs.Tallies.{ChannelTally, levels_on, own_written, power_on_tally, setting_at, tallied, tally_over, tally_step, tally_written}
 use Rattle.counts.specs.Laws.{AllFit, Counts}
 use Rattle.counts.proofs.Bounds.{Small, step_bound}
-use Rattle.counts.proofs.Cards.{Showing, Shows, card_read, card_ticked, other, own, shared_written_lem}
+use Rattle.counts.proofs.Cards.{Showing, Shows, card_read, altered, card_ticked, shared_written_lem}
 use Rattle.counts.proofs.Offsets.{Outside, misses, outside_spans, own_hits, own_misses, refused_outside}
 use Rattle.counts.proofs.Parts.{Part, part, part_loaded, part_mode}
 use Rattle.counts.proofs.Registers.{part_written, written_part}
 use Rattle.counts.proofs.Stands.{load_stands, mode_stands, pushed, standing, tick_stands}
 
 -- a write that is refused for its setting would leave the card
+refused_way : (b : Bool) (r : Result (Unit {0}) Refusal) (e : Refusal) (x y c : Card) → cond b r (Ok tt) ≡ Err e → (r ≡ Err e → x ≡ c) → cond b x y ≡ c
+refused_way true r e x y c q f = f q
+refused_way false r e x y c q f = cc
+
 refused_set : (o v : ℕ) (c : Card) (e : Refusal) → setting_checked o v ≡ Err e → register_set o v c ≡ c
-refused_set o v c e = go (in_channels o)
-  where
-    go : (x : Bool) → cond x (register_answer (place_at o) v) (Ok tt) ≡ Err e
-        → cond x (with_channel (channel_at o) (register_written (place_at o) v (channel_of (channel_at o) c)) c) (shared_written o v c) ≡ c
-    go true q = refused_record c o v e (register_written (place_at o) v (channel_of (channel_at o) c)) q refl
-    go false q = let z : ◌≡◌ {A = ℕ} 0 1 = cc in absurd (omega arith)
+refused_set o v c e q = refused_way (in_channels o) (register_answer (place_at o) v) e _ (shared_written o v c) c q (λ i. refused_record c o v e _ i refl)
 
 module _ (k : ℕ) (h : k < 8) where
   -- a write in a channel's span
   in_span : (o v : ℕ) (cs : List Channel) (t : ChannelTally) → Small t → 16 ≤ o → Shows k (standing t) cs
       → Shows k (standing (own_written k o v t)) (set cs (channel_at o) (register_written (place_at o) v (get_or cs (channel_at o) blank)))
-  in_span o v cs t b l s = ⊎_elim here elsewhere (cases_eq (channel_at o) k)
-    where
-      After : List Channel
-      After = set cs (channel_at o) (register_written (place_at o) v (get_or cs (channel_at o) blank))
-
-      here : channel_at o ≡ k → Shows k (standing (own_written k o v t)) After
-      here e = subst (λ (p : Part). Shows k p After) (sym (own_hits k o v t l e b))
-          (own k h (channel_at o) (register_written (place_at o) v) (part_written (place_at o) v) e (written_part (place_at o) v) s)
-
-      elsewhere : (channel_at o ≡ k → ⊥) → Shows k (standing (own_written k o v t)) After
-      elsewhere n = subst (λ (u : ChannelTally). Shows k (standing u) After) (sym (own_misses k o v t (λ a d m. n (omega arith))))
-          (other k h (channel_at o) (register_written (place_at o) v (get_or cs (channel_at o) blank)) n s)
+  in_span o v cs t b l s =
+      altered k h (channel_at o) (register_written (place_at o) v)
+      (λ e x i. written_part (place_at o) v x ∙ (ap (part_written (place_at o) v) i ∙ sym (own_hits k o v t l e b)))
+      (λ n. sym (ap standing (own_misses k o v t (λ a d m. n (omega arith))))) s
 
   -- a write outside the spans
   off_span : (o v : ℕ) (c : Card) (t : ChannelTally) → Small t → Outside k o → Showing k (standing t) c

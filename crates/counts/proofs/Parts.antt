@@ -1,5 +1,5 @@
 -- What the law of counts speaks of in a channel's record, and what each act of the card makes of it.
-use Rattle.std.proofs.Common.{◌≡◌, ℕ, ◌*◌, Bool, true, false, cond, Option, arith}
+use Rattle.std.proofs.Common.{◌≡◌, ℕ, ◌*◌, Bool, cond, Option, arith}
 use Rattle.bits.specs.Words.{word_field, word_flag}
 use Rattle.counter_count.specs.declared.levels.Levels.{Levels}
 use Rattle.counter_count.specs.declared.count.Count.{Count}
@@ -38,11 +38,6 @@ part c = record { lines = c.lines; mode = setting_of c.mode; count = c.counter.c
 
 abbrev pub with_count : Count → Part → Part
 with_count n p = record { lines = p.lines; mode = p.mode; count = n }
-
--- both ways of a test look alike
-pub alike : {A B : Type 0} (f : A → B) (b : Bool) (x y : A) {z : B} → f x ≡ z → f y ≡ z → f (cond b x y) ≡ z
-alike f true x y p q = p
-alike f false x y p q = q
 
 -- a change of mode
 abbrev pub part_mode : Setting → Part → Part
