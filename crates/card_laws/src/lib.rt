@@ -11,7 +11,6 @@ pub fn accesses_keep_apart()
 
 /// Only reads of a counting channel's Data Register, of an MCR Data Register and, with IRQ ACK CONFIG, of an interrupt
 /// status register alter the card.
-#[tactic(auto, using(crate::proofs::Quiet::quiet_reads))]
 pub fn reads_keep()
     ensures { QuietReads }
 {}
