@@ -5,7 +5,8 @@ use Rattle.runs.specs.declared.Call.{Call}
 use Rattle.runs.specs.declared.Call.TheVariants.{Tick, Read, Write}
 use Rattle.tally.specs.Tally.{Tally}
 use Rattle.tally.proofs.Stands.{tally_stands_lem}
-use Rattle.counts.specs.Tallies.{ChannelTally, Setting, in_counter_mode, tally_step}
+use Rattle.counts.specs.Tallies.{ChannelTally, Setting, in_counter_mode, levels_on, tally_step, tally_ticked, tally_written}
+use Rattle.channel.specs.Lines.{levels_of, lines_ticked}
 use Rattle.counts.specs.Laws.{Fits}
 
 abbrev pub Small : ChannelTally → Type 0
@@ -19,3 +20,10 @@ step_bound k (Tick lines inputs) t f b = small_when t.mode _ t.counter (tally_st
 step_bound k (Read o) t f b = b
 step_bound k (Write o v) t f b =
     grind (arith, nat_tests, small_when, tally_stands_lem.control_keeps v t.counter, tally_stands_lem.command_keeps v t.counter, tally_stands_lem.load_keeps t.counter)
+
+t1_tick : (k lines : ℕ) (t : ChannelTally) → Small t → Small (tally_ticked (levels_on k lines) t)
+t1_tick k lines t b = grind (arith, tally_stands_lem.tick_keeps (levels_of t.lines) (levels_of (lines_ticked (levels_on k lines) t.lines)) t.counter)
+
+t2_write : (k o v : ℕ) (t : ChannelTally) → v < 2 ^ 32 → Small t → Small (tally_written k o v t)
+t2_write k o v t f b =
+    grind (arith, nat_tests, tally_stands_lem.control_keeps v t.counter, tally_stands_lem.command_keeps v t.counter, tally_stands_lem.load_keeps t.counter)

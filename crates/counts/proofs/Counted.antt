@@ -1,7 +1,8 @@
 -- The law of counts, call by call.
 use Rattle.std.proofs.Common.{◌≡◌, ℕ, ◌*◌, ◌%◌, ◌<◌, ◌≤◌, Bool, true, false, cond, not, ◌||◌, eqb, ltb, leb, List, [], ◌∷◌, get_or, set, Ok, Err, Result, sym, refl, ap, ◌∙◌, subst, arith}
 use lib.ListN.{length-replicate, get_or-replicate}
-use Rattle.std.proofs.lemmas.Bool.{and_parts, leb-true, ne_eqb}
+use Rattle.std.proofs.lemmas.Bool.{cond_both, ne_eqb}
+use Rattle.std.proofs.lemmas.Bool.Decides.{nat_tests}
 use Rattle.refusal.specs.declared.Refusal.{Refusal}
 use Rattle.refusal.specs.declared.Refusal.TheVariants.{Offset}
 use Rattle.bits.specs.Words.{word_field, word_flag}
@@ -23,7 +24,7 @@ use Rattle.counts.proofs.Cards.{Showing, Shows, card_read, altered, card_ticked,
 use Rattle.counts.proofs.Offsets.{Outside, misses, outside_spans, own_hits, own_misses, refused_outside}
 use Rattle.counts.proofs.Parts.{Part, part, part_loaded, part_mode}
 use Rattle.counts.proofs.Registers.{part_written, written_part}
-use Rattle.counts.proofs.Stands.{load_stands, mode_stands, pushed, standing, tick_stands}
+use Rattle.counts.proofs.Stands.{load_stands, mode_stands, standing, tick_stands}
 
 -- a write that is refused for its setting would leave the card
 refused_way : (b : Bool) (r : Result (Unit {0}) Refusal) (e : Refusal) (x y c : Card) → cond b r (Ok tt) ≡ Err e → (r ≡ Err e → x ≡ c) → cond b x y ≡ c
@@ -32,6 +33,13 @@ refused_way false r e x y c q f = cc
 
 refused_set : (o v : ℕ) (c : Card) (e : Refusal) → setting_checked o v ≡ Err e → register_set o v c ≡ c
 refused_set o v c e q = refused_way (in_channels o) (register_answer (place_at o) v) e _ (shared_written o v c) c q (λ i. refused_record c o v e _ i refl)
+
+-- a refusal leaves the card
+write_kept : (b : Bool) (r : Result (Unit {0}) Refusal) (c d : Card) → ((e : Refusal) → r ≡ Err e → d ≡ c)
+    → card_after_write c (given (cond b (Err Offset) (Ok tt)) (given r (Ok d))) ≡ cond b c d
+write_kept true r c d f = refl
+write_kept false (Ok u) c d f = refl
+write_kept false (Err e) c d f = sym (f e refl)
 
 module _ (k : ℕ) (h : k < 8) where
   -- a write in a channel's span
@@ -49,40 +57,28 @@ module _ (k : ℕ) (h : k < 8) where
     where
       as_shared : standing (tally_written k o v t)
           ≡ cond (eqb o 0) (part_mode (setting_at (word_field v (2 * k) 2)) (standing t)) (cond (eqb o 4) (part_loaded (word_flag v k) (standing t)) (standing t))
-      as_shared = pushed standing (eqb o 0) (mode_stands (setting_at (word_field v (2 * k) 2)) t)
-          (pushed standing (eqb o 4) (load_stands (word_flag v k) t b) (ap standing (own_misses k o v t n)))
+      as_shared = grind (arith, mode_stands (setting_at (word_field v (2 * k) 2)) t, load_stands (word_flag v k) t b, own_misses k o v t n)
 
   -- a write that is not refused for its setting
   register_set_lem : (o v : ℕ) (c : Card) (t : ChannelTally) → Small t → Showing k (standing t) c
       → Showing k (standing (tally_written k o v t)) (register_set o v c)
-  register_set_lem o v c t b s = go (in_channels o) refl
-    where
-      go : (x : Bool) → in_channels o ≡ x → Showing k (standing (tally_written k o v t))
-          (cond x (with_channel (channel_at o) (register_written (place_at o) v (channel_of (channel_at o) c)) c) (shared_written o v c))
-      go true e =
-          let l : 16 ≤ o = leb-true 16 o (and_parts (leb 16 o) (ltb o 336) e).0 in
-          rw (ne_eqb o 0 (λ z. omega arith), ne_eqb o 4 (λ z. omega arith)) (in_span o v c.channels t b l s)
-      go false e = off_span o v c t b (outside_spans k o h e) s
+  register_set_lem o v c t b s =
+      cond_both (in_channels o) _ _ (Showing k (standing (tally_written k o v t)))
+      (λ e. let l : 16 ≤ o = grind (arith, nat_tests) in
+          rw (ne_eqb o 0 (λ z. omega arith), ne_eqb o 4 (λ z. omega arith)) (in_span o v c.channels t b l s))
+      (λ e. off_span o v c t b (outside_spans k o h e) s)
 
   -- a write, accepted or refused
   card_written : (o v : ℕ) (c : Card) (t : ChannelTally) → Small t → Showing k (standing t) c
       → Showing k (standing (tally_written k o v t)) (card_after_write c (write_done c o v))
   unfolding write_done
-  card_written o v c t b s = checked (not (eqb (o % 4) 0) || ltb 508 o) refl
-    where
-      After : Card → Type 0
-      After x = Showing k (standing (tally_written k o v t)) x
-
-      set_done : (r : Result (Unit {0}) Refusal) → setting_checked o v ≡ r → After (card_after_write c (given r (Ok (register_set o v c))))
-      set_done (Ok u) e = register_set_lem o v c t b s
-      set_done (Err f) e = subst After (refused_set o v c f e) (register_set_lem o v c t b s)
-
-      checked : (x : Bool) → (not (eqb (o % 4) 0) || ltb 508 o) ≡ x → After (card_after_write c (given (cond x (Err Offset) (Ok tt)) (given (setting_checked o v) (Ok (register_set o v c)))))
-      checked true e =
-          let n = refused_outside o e in
-          subst (λ (u : ChannelTally). Showing k (standing u) c)
-          (sym (misses k o v t (λ z. n (omega arith) (omega arith)) (λ z. n (omega arith) (omega arith)) (λ a d m. n m (omega arith)))) s
-      checked false e = set_done (setting_checked o v) refl
+  card_written o v c t b s =
+      let After : Card → Type 0 = Showing k (standing (tally_written k o v t)) in
+      let refused = not (eqb (o % 4) 0) || ltb 508 o in
+      subst After (sym (write_kept refused (setting_checked o v) c (register_set o v c) (refused_set o v c))) (cond_both refused _ _ After
+      (λ e. let n = refused_outside o e in
+          rw (misses k o v t (λ z. n (omega arith) (omega arith)) (λ z. n (omega arith) (omega arith)) (λ a d m. n m (omega arith))) s)
+      (λ e. register_set_lem o v c t b s))
 
   -- one call
   step_shows : (x : Call) (c : Card) (t : ChannelTally) → Small t → Showing k (standing t) c → Showing k (standing (tally_step k t x)) (step c x)

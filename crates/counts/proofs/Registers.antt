@@ -36,3 +36,7 @@ written_part o v c = grind (arith, nat_tests, command_part, requested_part)
 pub taken_part : (o : ℕ) (c : Channel) → part (register_taken o c) ≡ part c
 unfolding register_taken register.data_read
 taken_part o c = grind arith
+
+t1_written : (o v : ℕ) (c : Channel) → part (register_written o v c) ≡ part_written o v (part c)
+unfolding register_written register.control_written register.status_cleared register.preload_written register.compare_written register.commanded
+t1_written o v c = grind (arith, nat_tests, requested_part)
