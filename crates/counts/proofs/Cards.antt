@@ -1,8 +1,7 @@
 -- What each call makes of channel k's part in the law of counts, in the table of all eight.
-use Rattle.std.proofs.Common.{◌≡◌, ℕ, ◌*◌, ◌<◌, Bool, true, false, cond, ◌&&◌, eqb, List, length, get_or, set, Ok, Err, Result, sym, refl, ap, ◌∙◌, ⊎_elim, rules, arith, length-set, get_or-set_other}
+use Rattle.std.proofs.Common.{◌≡◌, ℕ, ◌*◌, ◌<◌, Bool, true, false, cond, ◌&&◌, eqb, List, length, get_or, set, Ok, Err, sym, refl, ap, ◌∙◌, ⊎_elim, rules, arith, length-set, get_or-set_other}
 use Rattle.std.proofs.lemmas.Bool.{cases_eq}
 use Rattle.std.proofs.lemmas.Grind.{get_or-set_at}
-use Rattle.refusal.specs.declared.Refusal.{Refusal}
 use Rattle.bits.specs.Words.{word_field, word_flag}
 use Rattle.filter.specs.Debounces.{debounce_of, period_of}
 use Rattle.parts.specs.Snapshots.{after_reading}
@@ -85,11 +84,11 @@ module _ (k : ℕ) (h : k < 8) where
   -- a read, accepted or not, leaves the part
   pub card_read : (o : ℕ) (c : Card) {p : Part} → Showing k p c → Showing k p (card_after_read c (read_done c o))
   unfolding read_done
-  card_read o c {p} s = go (offset_checked o)
-    where
-      go : (r : Result (Unit {0}) Refusal) → Showing k p (card_after_read c (given r (Ok (record { value = register_value o c; card = register_read o c }))))
-      go (Ok u) = register_read_lem o c s
-      go (Err e) = s
+  card_read o c {p} s =
+      elim (offset_checked o) as (λ r. Showing k p (card_after_read c (given r (Ok (record { value = register_value o c; card = register_read o c }))))) [
+        | Ok u ↦ register_read_lem o c s
+        | Err e ↦ s
+      ]
 
   -- Global Command: of its bits only LCNT bears on the part
   global_command : (v : ℕ) (c : Card) {p : Part} → Showing k p c → Showing k (part_loaded (word_flag v k) p) (commanded v c)

@@ -1,5 +1,5 @@
 -- What the law of counts speaks of in a channel's record, and what each act of the card makes of it.
-use Rattle.std.proofs.Common.{◌≡◌, ℕ, ◌*◌, Bool, cond, Option, arith}
+use Rattle.std.proofs.Common.{◌≡◌, ℕ, ◌*◌, Bool, cond, arith}
 use Rattle.bits.specs.Words.{word_field, word_flag}
 use Rattle.counter_count.specs.declared.levels.Levels.{Levels}
 use Rattle.counter_count.specs.declared.count.Count.{Count}
@@ -7,19 +7,16 @@ use Rattle.counter_count.specs.Counts.{preload_loaded, restarted}
 use Rattle.counter_count.specs.Ticks.{count_ticked}
 use Rattle.counter.specs.Counters.{ticked}
 use Rattle.counter.specs.Registers as register
-use Rattle.controller.specs.declared.control.Start.{Start}
-use Rattle.controller.specs.declared.registers.Completed.{Completed}
 use Rattle.channel.specs.declared.act.Act.{Act}
-use Rattle.channel.specs.declared.act.Act.TheVariants.{Control, Load, ClearSnapshot, Snapshot, DebounceInput, Output, EnableInterrupts, AcknowledgeInterrupts, EnableEdges, AcknowledgeEdges, TestOutput}
+use Rattle.channel.specs.declared.act.Act.TheVariants.{Control, Load}
 use Rattle.channel.specs.declared.lines.Lines.{Lines}
 use Rattle.channel.specs.declared.mode.Mode.{Mode}
 use Rattle.channel.specs.declared.mode.Mode.TheVariants.{Off, Counter as Counting, Ssi as Reading}
 use Rattle.channel.specs.declared.channel.Channel.{Channel}
 use Rattle.channel.specs.Lines.{levels_of, lines_ticked}
-use Rattle.channel.specs.Modes.{mode_written}
-use Rattle.channel.specs.Shares.{loaded_by, performed}
-use Rattle.channel.specs.Snapshots.{snapped, ssi_snapped_as}
-use Rattle.channel.specs.Ticks.{channel_ticked, finished, observed, requested, timer_requested, transmitted, worked}
+use Rattle.channel.specs.Shares.{performed}
+use Rattle.channel.specs.Snapshots.{snapped}
+use Rattle.channel.specs.Ticks.{channel_ticked, requested, timer_requested, transmitted}
 use Rattle.counts.specs.Tallies.{Setting, off, counting, reading, enters, in_counter_mode, setting_at}
 
 -- the filters of the lines, the mode without the controller's phase, and the count

@@ -1,10 +1,9 @@
 -- A channel's tally stands for the part of its record that the law of counts speaks of.
-use Rattle.std.proofs.Common.{◌≡◌, ℕ, ◌^◌, ◌<◌, Bool, true, false, cond, ap, arith}
+use Rattle.std.proofs.Common.{◌≡◌, ℕ, ◌^◌, ◌<◌, Bool, arith}
 use Rattle.counter_count.specs.declared.levels.Levels.{Levels}
-use Rattle.counter_count.specs.declared.count.Count.{Count}
 use Rattle.counter_count.specs.Counts.{control_written}
 use Rattle.channel.specs.Lines.{levels_of, lines_ticked}
-use Rattle.tally.specs.Tally.{Tally, stands, tally_command, tally_control, tally_tick}
+use Rattle.tally.specs.Tally.{stands, tally_command, tally_control}
 use Rattle.tally.proofs.Stands.{tally_stands_lem}
 use Rattle.counts.specs.Tallies.{ChannelTally, Setting, in_counter_mode, tally_loaded, tally_mode, tally_ticked, with_tally}
 use Rattle.counts.proofs.Parts.{Part, part_loaded, part_mode, part_ticked, with_count}
