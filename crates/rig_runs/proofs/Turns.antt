@@ -1,6 +1,5 @@
 -- A list of calls, one call more.
-use Rattle.std.proofs.Common.{◌≡◌, ℕ, ◌+◌, ◌<◌, min, List, [], ◌∷◌, ◌++◌, length, get_or, take, drop, set, sym, refl, ap, ◌∙◌, inl, inr, arith}
-use Rattle.std.proofs.lemmas.Bool.{cases_lt}
+use Rattle.std.proofs.Common.{◌≡◌, ℕ, ◌+◌, ◌<◌, min, List, [], ◌∷◌, ◌++◌, length, get_or, take, drop, set, refl, ap, arith}
 use Rattle.std.proofs.lemmas.List.{drop-drop, drop-set-lt, drop_min, take_min, take-append-drop, take_more, take_more_set}
 use Rattle.rig.specs.Benches.{Bench, answer_on, answers_on, run_on, step_on}
 use Rattle.rig.specs.declared.calls.RigAnswer.{RigAnswer}
@@ -15,15 +14,15 @@ answers_push b [] x = refl
 answers_push b (y ∷ ys) x = ap (λ (t : List RigAnswer). answer_on b y ∷ t) (answers_push (step_on b y) ys x)
 
 -- the state after one call more
-pub run_more : (b n : Bench) (xs : List RigCall) (i : ℕ) (d : RigCall) → i < length xs
-    → n ≡ step_on (run_on b (take i xs)) (get_or xs i d) → n ≡ run_on b (take (i + 1) xs)
-run_more b n xs i d h e = rw (take_more xs i d h, run_push) e
+pub run_more : (b m n : Bench) (xs : List RigCall) (i : ℕ) (d : RigCall) → i < length xs
+    → m ≡ run_on b (take i xs) → n ≡ step_on m (get_or xs i d) → n ≡ run_on b (take (i + 1) xs)
+run_more b m n xs i d h k e = rw (take_more xs i d h, run_push, ← k) e
 
 -- the answers after one call more
-pub answers_more : (b : Bench) (xs : List RigCall) (out : List RigAnswer) (i : ℕ) (d : RigCall) (a : RigAnswer) → i < length xs → i < length out
-    → take i out ≡ answers_on b (take i xs) → a ≡ answer_on (run_on b (take i xs)) (get_or xs i d)
+pub answers_more : (b m : Bench) (xs : List RigCall) (out : List RigAnswer) (i : ℕ) (d : RigCall) (a : RigAnswer) → i < length xs → i < length out
+    → m ≡ run_on b (take i xs) → take i out ≡ answers_on b (take i xs) → a ≡ answer_on m (get_or xs i d)
     → take (i + 1) (set out i a) ≡ answers_on b (take (i + 1) xs)
-answers_more b xs out i d a h l e q = rw (take_more_set out i a l, take_more xs i d h, answers_push, e, q) refl
+answers_more b m xs out i d a h l k e q = rw (take_more_set out i a l, take_more xs i d h, answers_push, ← k, e, q) refl
 
 -- what is not yet answered is as it was
 pub rest_more : (out was : List RigAnswer) (i : ℕ) (a : RigAnswer) → drop i out ≡ drop i was → drop (i + 1) (set out i a) ≡ drop (i + 1) was
