@@ -18,4 +18,4 @@ pub step_bound : (k : ℕ) (x : Call) (t : ChannelTally) → Fits x → Small t 
 step_bound k (Tick lines inputs) t f b = small_when t.mode _ t.counter (tally_stands_lem.tick_keeps _ _ t.counter) b
 step_bound k (Read o) t f b = b
 step_bound k (Write o v) t f b =
-    grind (arith, nat_tests, small_when, tally_stands_lem.control_keeps v t.counter, tally_stands_lem.command_keeps v t.counter, tally_stands_lem.load_keeps t.counter)
+    grind (arith, nat_tests, tally_stands_lem.control_keeps v t.counter, tally_stands_lem.command_keeps v t.counter, tally_stands_lem.load_keeps t.counter)

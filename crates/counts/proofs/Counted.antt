@@ -1,97 +1,60 @@
 -- The law of counts, call by call.
-use Rattle.std.proofs.Common.{◌≡◌, ℕ, ◌*◌, ◌%◌, ◌<◌, ◌≤◌, Bool, true, false, cond, not, ◌||◌, eqb, ltb, leb, List, [], ◌∷◌, get_or, set, Ok, Err, Result, sym, refl, ap, subst, ⊎_elim, arith}
+use Rattle.std.proofs.Common.{◌≡◌, ℕ, ◌%◌, ◌<◌, Bool, true, false, cond, not, ◌||◌, eqb, ltb, List, [], ◌∷◌, Ok, Err, Result, sym, refl, ap, ◌∙◌, subst, arith}
 use lib.ListN.{length-replicate, get_or-replicate}
-use Rattle.std.proofs.lemmas.Bool.{and_parts, cases_eq, leb-true, ne_eqb}
+use Rattle.std.proofs.lemmas.Bool.{cond_both}
 use Rattle.refusal.specs.declared.Refusal.{Refusal}
 use Rattle.refusal.specs.declared.Refusal.TheVariants.{Offset}
-use Rattle.bits.specs.Words.{word_field, word_flag}
-use Rattle.channel.specs.declared.channel.Channel.{Channel}
-use Rattle.channel.specs.Registers.{register_answer, register_written}
+use Rattle.channel.specs.Registers.{register_written}
 use Rattle.channel.specs.Ticks.{new_channel}
 use Rattle.card.specs.Calls.{Card, card_after_write, given, powered_on, write_done}
-use Rattle.card.specs.Records.{blank, channel_of, with_channel}
+use Rattle.card.specs.Records.{blank, channel_of}
 use Rattle.card.specs.SharedRegisters.{shared_written}
 use Rattle.card.specs.Registers.{channel_at, in_channels, place_at, register_set, setting_checked}
 use Rattle.card.proofs.Refused.{refused_record}
 use Rattle.runs.specs.declared.Call.{Call}
 use Rattle.runs.specs.declared.Call.TheVariants.{Tick, Read, Write}
 use Rattle.runs.specs.Runs.{run, step}
-use Rattle.counts.specs.Tallies.{ChannelTally, levels_on, own_written, power_on_tally, setting_at, tallied, tally_over, tally_step, tally_written}
+use Rattle.counts.specs.Tallies.{ChannelTally, levels_on, power_on_tally, tallied, tally_over, tally_step, tally_written}
 use Rattle.counts.specs.Laws.{AllFit, Counts}
 use Rattle.counts.proofs.Bounds.{Small, step_bound}
-use Rattle.counts.proofs.Cards.{Showing, Shows, card_read, card_ticked, other, own, shared_written_lem}
-use Rattle.counts.proofs.Offsets.{Outside, misses, outside_spans, own_hits, own_misses, refused_outside}
-use Rattle.counts.proofs.Parts.{Part, part, part_loaded, part_mode}
+use Rattle.counts.proofs.Cards.{Showing, card_read, altered, card_ticked, shared_written_lem}
+use Rattle.counts.proofs.Offsets.{own_hits, own_misses, refused_misses, shared_hits}
+use Rattle.counts.proofs.Parts.{Part, part}
 use Rattle.counts.proofs.Registers.{part_written, written_part}
-use Rattle.counts.proofs.Stands.{load_stands, mode_stands, pushed, standing, tick_stands}
+use Rattle.counts.proofs.Stands.{standing, tick_stands}
 
 -- a write that is refused for its setting would leave the card
 refused_set : (o v : ℕ) (c : Card) (e : Refusal) → setting_checked o v ≡ Err e → register_set o v c ≡ c
-refused_set o v c e = go (in_channels o)
-  where
-    go : (x : Bool) → cond x (register_answer (place_at o) v) (Ok tt) ≡ Err e
-        → cond x (with_channel (channel_at o) (register_written (place_at o) v (channel_of (channel_at o) c)) c) (shared_written o v c) ≡ c
-    go true q = refused_record c o v e (register_written (place_at o) v (channel_of (channel_at o) c)) q refl
-    go false q = let z : ◌≡◌ {A = ℕ} 0 1 = cc in absurd (omega arith)
+refused_set o v c e q = grind (arith, refused_record c o v e (register_written (place_at o) v (channel_of (channel_at o) c)))
+
+-- a refusal leaves the card
+write_kept : (b : Bool) (r : Result (Unit {0}) Refusal) (c d : Card) → ((e : Refusal) → r ≡ Err e → d ≡ c)
+    → card_after_write c (given (cond b (Err Offset) (Ok tt)) (given r (Ok d))) ≡ cond b c d
+write_kept true r c d f = refl
+write_kept false (Ok u) c d f = refl
+write_kept false (Err e) c d f = sym (f e refl)
 
 module _ (k : ℕ) (h : k < 8) where
-  -- a write in a channel's span
-  in_span : (o v : ℕ) (cs : List Channel) (t : ChannelTally) → Small t → 16 ≤ o → Shows k (standing t) cs
-      → Shows k (standing (own_written k o v t)) (set cs (channel_at o) (register_written (place_at o) v (get_or cs (channel_at o) blank)))
-  in_span o v cs t b l s = ⊎_elim here elsewhere (cases_eq (channel_at o) k)
-    where
-      After : List Channel
-      After = set cs (channel_at o) (register_written (place_at o) v (get_or cs (channel_at o) blank))
-
-      here : channel_at o ≡ k → Shows k (standing (own_written k o v t)) After
-      here e = subst (λ (p : Part). Shows k p After) (sym (own_hits k o v t l e b))
-          (own k h (channel_at o) (register_written (place_at o) v) (part_written (place_at o) v) e (written_part (place_at o) v) s)
-
-      elsewhere : (channel_at o ≡ k → ⊥) → Shows k (standing (own_written k o v t)) After
-      elsewhere n = subst (λ (u : ChannelTally). Shows k (standing u) After) (sym (own_misses k o v t (λ a d m. n (omega arith))))
-          (other k h (channel_at o) (register_written (place_at o) v (get_or cs (channel_at o) blank)) n s)
-
-  -- a write outside the spans
-  off_span : (o v : ℕ) (c : Card) (t : ChannelTally) → Small t → Outside k o → Showing k (standing t) c
-      → Showing k (standing (tally_written k o v t)) (shared_written o v c)
-  off_span o v c t b n s = subst (λ (p : Part). Showing k p (shared_written o v c)) (sym as_shared) (shared_written_lem k h o v c s)
-    where
-      as_shared : standing (tally_written k o v t)
-          ≡ cond (eqb o 0) (part_mode (setting_at (word_field v (2 * k) 2)) (standing t)) (cond (eqb o 4) (part_loaded (word_flag v k) (standing t)) (standing t))
-      as_shared = pushed standing (eqb o 0) (mode_stands (setting_at (word_field v (2 * k) 2)) t)
-          (pushed standing (eqb o 4) (load_stands (word_flag v k) t b) (ap standing (own_misses k o v t n)))
-
   -- a write that is not refused for its setting
   register_set_lem : (o v : ℕ) (c : Card) (t : ChannelTally) → Small t → Showing k (standing t) c
       → Showing k (standing (tally_written k o v t)) (register_set o v c)
-  register_set_lem o v c t b s = go (in_channels o) refl
-    where
-      go : (x : Bool) → in_channels o ≡ x → Showing k (standing (tally_written k o v t))
-          (cond x (with_channel (channel_at o) (register_written (place_at o) v (channel_of (channel_at o) c)) c) (shared_written o v c))
-      go true e =
-          let l : 16 ≤ o = leb-true 16 o (and_parts (leb 16 o) (ltb o 336) e).0 in
-          rw (ne_eqb o 0 (λ z. omega arith), ne_eqb o 4 (λ z. omega arith)) (in_span o v c.channels t b l s)
-      go false e = off_span o v c t b (outside_spans k o h e) s
+  register_set_lem o v c t b s =
+      cond_both (in_channels o) _ _ (Showing k (standing (tally_written k o v t)))
+      (λ e. altered k h (channel_at o) (register_written (place_at o) v)
+      (λ q x i. written_part (place_at o) v x ∙ (ap (part_written (place_at o) v) i ∙ sym (own_hits k o v t e q b)))
+      (λ n. sym (ap standing (own_misses k o v t e n))) s)
+      (λ e. subst (λ (p : Part). Showing k p (shared_written o v c)) (sym (shared_hits k o v t h e b)) (shared_written_lem k h o v c s))
 
   -- a write, accepted or refused
   card_written : (o v : ℕ) (c : Card) (t : ChannelTally) → Small t → Showing k (standing t) c
       → Showing k (standing (tally_written k o v t)) (card_after_write c (write_done c o v))
   unfolding write_done
-  card_written o v c t b s = checked (not (eqb (o % 4) 0) || ltb 508 o) refl
-    where
-      After : Card → Type 0
-      After x = Showing k (standing (tally_written k o v t)) x
-
-      set_done : (r : Result (Unit {0}) Refusal) → setting_checked o v ≡ r → After (card_after_write c (given r (Ok (register_set o v c))))
-      set_done (Ok u) e = register_set_lem o v c t b s
-      set_done (Err f) e = subst After (refused_set o v c f e) (register_set_lem o v c t b s)
-
-      checked : (x : Bool) → (not (eqb (o % 4) 0) || ltb 508 o) ≡ x → After (card_after_write c (given (cond x (Err Offset) (Ok tt)) (given (setting_checked o v) (Ok (register_set o v c)))))
-      checked true e =
-          let n = refused_outside o e in
-          subst (λ (u : ChannelTally). Showing k (standing u) c)
-          (sym (misses k o v t (λ z. n (omega arith) (omega arith)) (λ z. n (omega arith) (omega arith)) (λ a d m. n m (omega arith)))) s
-      checked false e = set_done (setting_checked o v) refl
+  card_written o v c t b s =
+      let After : Card → Type 0 = Showing k (standing (tally_written k o v t)) in
+      let refused = not (eqb (o % 4) 0) || ltb 508 o in
+      subst After (sym (write_kept refused (setting_checked o v) c (register_set o v c) (refused_set o v c))) (cond_both refused _ _ After
+      (λ e. rw (refused_misses k o v t h e) s)
+      (λ e. register_set_lem o v c t b s))
 
   -- one call
   step_shows : (x : Call) (c : Card) (t : ChannelTally) → Small t → Showing k (standing t) c → Showing k (standing (tally_step k t x)) (step c x)

@@ -6,7 +6,7 @@ use Rattle.counter_count.specs.Counts.{commanded, control_written, preloaded}
 use Rattle.counter.specs.Registers as register
 use Rattle.channel.specs.declared.channel.Channel.{Channel}
 use Rattle.channel.specs.Lines.{lines_restarted}
-use Rattle.channel.specs.Registers.{command_written, is_counter_mode, register_taken, register_written}
+use Rattle.channel.specs.Registers.{register_taken, register_written}
 use Rattle.counts.specs.Tallies.{in_counter_mode as when_counting}
 use Rattle.counts.proofs.Parts.{Part, part, requested_part, with_count}
 
@@ -25,13 +25,9 @@ part_written o v p =
     cond (eqb o 24) (part_commanded v p) (
     cond (eqb o 28) (part_debounced v p) p)))
 
-command_part : (v : ℕ) (c : Channel) → part (cond (is_counter_mode c) (command_written v c) c) ≡ part_commanded v (part c)
-unfolding register.commanded
-command_part v c = grind arith
-
 pub written_part : (o v : ℕ) (c : Channel) → part (register_written o v c) ≡ part_written o v (part c)
-unfolding register_written register.control_written register.status_cleared register.preload_written register.compare_written
-written_part o v c = grind (arith, nat_tests, command_part, requested_part)
+unfolding register_written register.control_written register.status_cleared register.preload_written register.compare_written register.commanded
+written_part o v c = grind (arith, nat_tests, requested_part)
 
 pub taken_part : (o : ℕ) (c : Channel) → part (register_taken o c) ≡ part c
 unfolding register_taken register.data_read

@@ -1,10 +1,9 @@
 -- A channel's tally stands for the part of its record that the law of counts speaks of.
-use Rattle.std.proofs.Common.{◌≡◌, ℕ, ◌^◌, ◌<◌, Bool, true, false, cond, ap, arith}
+use Rattle.std.proofs.Common.{◌≡◌, ℕ, ◌^◌, ◌<◌, Bool, arith}
 use Rattle.counter_count.specs.declared.levels.Levels.{Levels}
-use Rattle.counter_count.specs.declared.count.Count.{Count}
 use Rattle.counter_count.specs.Counts.{control_written}
 use Rattle.channel.specs.Lines.{levels_of, lines_ticked}
-use Rattle.tally.specs.Tally.{Tally, stands, tally_command, tally_control, tally_tick}
+use Rattle.tally.specs.Tally.{stands, tally_command, tally_control}
 use Rattle.tally.proofs.Stands.{tally_stands_lem}
 use Rattle.counts.specs.Tallies.{ChannelTally, Setting, in_counter_mode, tally_loaded, tally_mode, tally_ticked, with_tally}
 use Rattle.counts.proofs.Parts.{Part, part_loaded, part_mode, part_ticked, with_count}
@@ -13,19 +12,6 @@ use Rattle.counts.proofs.Registers.{part_commanded}
 -- the part that a tally stands for
 abbrev pub standing : ChannelTally → Part
 standing t = record { lines = t.lines; mode = t.mode; count = stands t.counter }
-
--- a function of both ways of a test
-pub pushed : {A B : Type 0} (f : A → B) (b : Bool) {x y : A} {u v : B} → f x ≡ u → f y ≡ v → f (cond b x y) ≡ cond b u v
-pushed f true p q = p
-pushed f false p q = q
-
--- what only Counter Mode does
-heeded : (s : Setting) (new old : Tally) {n : Count} → stands new ≡ n → stands (in_counter_mode s new old) ≡ in_counter_mode s n (stands old)
-heeded s new old e = grind arith
-
--- parts with equal counts
-at_count : (p : Part) {m n : Count} → m ≡ n → with_count m p ≡ with_count n p
-at_count p e = ap (λ (m : Count). with_count m p) e
 
 pub mode_stands : (s : Setting) (t : ChannelTally) → standing (tally_mode s t) ≡ part_mode s (standing t)
 mode_stands s t = grind arith
@@ -41,7 +27,4 @@ pub command_stands : (v : ℕ) (t : ChannelTally) → t.counter.preload < 2 ^ 32
 command_stands v t h = grind (arith, tally_stands_lem.command v t.counter h)
 
 pub tick_stands : (x : Levels) (t : ChannelTally) → t.counter.preload < 2 ^ 32 → standing (tally_ticked x t) ≡ part_ticked x (standing t)
-tick_stands x t h =
-    let after = lines_ticked x t.lines in
-    at_count (record { lines = after; mode = t.mode; count = stands t.counter })
-    (heeded t.mode (tally_tick (levels_of t.lines) (levels_of after) t.counter) t.counter (tally_stands_lem.tick (levels_of t.lines) (levels_of after) t.counter h))
+tick_stands x t h = grind (arith, tally_stands_lem.tick (levels_of t.lines) (levels_of (lines_ticked x t.lines)) t.counter h)

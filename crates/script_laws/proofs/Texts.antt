@@ -1,14 +1,14 @@
 -- A command that is written out is read back.
-use Rattle.std.proofs.Common.{◌≡◌, ℕ, zero, suc, ◌+◌, ◌*◌, ◌/◌, ◌%◌, ◌^◌, ◌<◌, ◌≤◌, true, false, cond, ltb, List, [], ◌∷◌, ◌++◌, length, get_or, Some, Ok, decimal, Option, sym, refl, ap, ◌∙◌, subst, append_assoc, pow-suc, arith, ltb-false, ltb-true, lt-ltb, eq-eqb, ne_eqb, le-leb}
+use Rattle.std.proofs.Common.{◌≡◌, ℕ, zero, suc, ◌+◌, ◌*◌, ◌/◌, ◌%◌, ◌^◌, ◌<◌, ◌≤◌, List, [], ◌∷◌, ◌++◌, length, Some, Ok, decimal, refl, ap, ◌∙◌, append_assoc, pow-suc, arith, rules}
 use Rattle.std.proofs.lemmas.Bool.Decides.{nat_tests}
 use Rattle.std.specs.List.{AllByRecursion}
 use Rattle.std.proofs.ByRecursion.{All-append, All-push, All-weaker}
 use Rattle.std.proofs.lemmas.List.{length-append, append-nil}
 use Rattle.std.proofs.lemmas.Fmt.{decimal_by_steps, decimal_nonempty, length-decimal-le, first_decimal}
 use Rattle.text.specs.Lines.{up_to, past}
-use Rattle.text.specs.Fields.{commas, digit_of, with_digit, number_from, hex_field, count_field}
+use Rattle.text.specs.Fields.{commas, digit_of, number_from, hex_field, count_field}
 use Rattle.text.proofs.Cuts.{up_to_more, past_more, comma_here, comma_more}
-use Rattle.text.specs.Commands.{command_of, given}
+use Rattle.text.specs.Commands.{command_of}
 use Rattle.text.specs.declared.command.Command.{Command}
 use Rattle.text.specs.declared.command.Command.TheVariants.{Read, Write, Tick}
 use Rattle.script.specs.Output.{hex_digit_of, hex_bytes}
@@ -46,18 +46,17 @@ comma_none (b ∷ f) h = comma_more b f (λ e. omega (arith, h.0)) ∙ comma_non
 kind_commas : (kind : ℕ) (f : List ℕ) → (kind ≡ 44 → ⊥) → commas (kind ∷ (44 ∷ f)) ≡ suc (commas f)
 kind_commas kind f h = comma_more kind (44 ∷ f) h ∙ comma_here f
 
-read_text : (f : List ℕ) → Plain f → command_of (82 ∷ (44 ∷ f)) ≡ given (hex_field 3 f) (λ o. Ok (Read o))
-read_text f h = rw (kind_commas 82 f (λ e. omega arith), comma_none f h, field_last f h) refl
+read_text : {o : ℕ} (f : List ℕ) → Plain f → hex_field 3 f ≡ Some o → command_of (82 ∷ (44 ∷ f)) ≡ Ok (Read o)
+read_text f h a = rw (kind_commas 82 f (λ e. omega arith), comma_none f h, field_last f h, a) refl
 
-write_text : (f g : List ℕ) → Plain f → Plain g
-    → command_of (87 ∷ (44 ∷ (f ++ (44 ∷ g)))) ≡ given (hex_field 3 f) (λ o. given (hex_field 8 g) (λ v. Ok (Write o v)))
-write_text f g hf hg =
-    rw (kind_commas 87 (f ++ (44 ∷ g)) (λ e. omega arith), comma_then g f hf, comma_none g hg, next_field g f hf, field_here g f hf, field_last g hg) refl
+write_text : {o v : ℕ} (f g : List ℕ) → Plain f → Plain g → hex_field 3 f ≡ Some o → hex_field 8 g ≡ Some v
+    → command_of (87 ∷ (44 ∷ (f ++ (44 ∷ g)))) ≡ Ok (Write o v)
+write_text f g hf hg a b =
+    rw (kind_commas 87 (f ++ (44 ∷ g)) (λ e. omega arith), comma_then g f hf, comma_none g hg, next_field g f hf, field_here g f hf, field_last g hg, a, b) refl
 
-tick_text : (n f g : List ℕ) → Plain n → Plain f → Plain g
-    → command_of (84 ∷ (44 ∷ (n ++ (44 ∷ (f ++ (44 ∷ g))))))
-    ≡ given (count_field n) (λ m. given (hex_field 6 f) (λ b. given (hex_field 2 g) (λ i. Ok (Tick m b i))))
-tick_text n f g hn hf hg =
+tick_text : {m b i : ℕ} (n f g : List ℕ) → Plain n → Plain f → Plain g → count_field n ≡ Some m → hex_field 6 f ≡ Some b → hex_field 2 g ≡ Some i
+    → command_of (84 ∷ (44 ∷ (n ++ (44 ∷ (f ++ (44 ∷ g)))))) ≡ Ok (Tick m b i)
+tick_text n f g hn hf hg a b c =
     rw (
       kind_commas 84 (n ++ (44 ∷ (f ++ (44 ∷ g)))) (λ e. omega arith),
       comma_then (f ++ (44 ∷ g)) n hn,
@@ -68,37 +67,30 @@ tick_text n f g hn hf hg =
       field_here (f ++ (44 ∷ g)) n hn,
       field_here g f hf,
       field_last g hg,
+      a,
+      b,
+      c,
     ) refl
 
 -- a digit is read back
 digit_back : (d : ℕ) → d < 16 → digit_of (hex_digit_of d) ≡ Some d
-digit_back d h =
-    (elim (ltb d 10) as (λ v. ltb d 10 ≡ v → digit_of (cond v (48 + d) (55 + d)) ≡ Some d) [
-      | true ↦ λ e. grind (arith, nat_tests, ltb-true d 10 e)
-      | false ↦ λ e. grind (arith, nat_tests, ltb-false d 10 e)
-    ]) refl
+digit_back d h = grind (arith, nat_tests)
 
 one_digit : (base v b d : ℕ) (r : List ℕ) → digit_of b ≡ Some d → d < base
     → number_from base v (b ∷ r) ≡ number_from base (v * base + d) r
-one_digit base v b d r q h =
-    let P : Option ℕ → Type 0 = λ o. with_digit base (λ e. number_from base (v * base + e) r) o ≡ number_from base (v * base + d) r in
-    subst P (sym q) (rw (lt-ltb d base h))
+one_digit base v b d r q h = grind (arith, nat_tests)
 
 -- hexadecimal digits are read back
 hex_number : (w v : ℕ) (r : List ℕ) → v < 16 ^ w → number_from 16 0 (hex_bytes w v ++ r) ≡ number_from 16 v r
-hex_number zero v r h = let z : 0 ≡ v = omega arith in ap (λ n. number_from 16 n r) z
+hex_number zero v r h = grind arith
 hex_number (suc w) v r h =
-    let small : v / 16 < 16 ^ w = omega (arith, pow-suc 16 w) in
-    let same : v / 16 * 16 + v % 16 ≡ v = omega arith in
-    ap (number_from 16 0) (append_assoc (hex_bytes w (v / 16)) (hex_digit_of (v % 16) ∷ []) r)
-    ∙ (hex_number w (v / 16) (hex_digit_of (v % 16) ∷ r) small
-    ∙ (one_digit 16 (v / 16) (hex_digit_of (v % 16)) (v % 16) r (digit_back (v % 16) (omega arith)) (omega arith)
-    ∙ ap (λ n. number_from 16 n r) same))
+    let digit = one_digit 16 (v / 16) (hex_digit_of (v % 16)) (v % 16) r (digit_back (v % 16) (omega arith)) (omega arith) in
+    grind (arith, append_assoc (hex_bytes w (v / 16)) (hex_digit_of (v % 16) ∷ []) r, hex_number w (v / 16) (hex_digit_of (v % 16) ∷ r) (omega (arith, pow-suc 16 w)), digit)
 
 digit_plain : (d : ℕ) → 48 ≤ hex_digit_of d
-digit_plain d = elim (ltb d 10) as (λ v. 48 ≤ cond v (48 + d) (55 + d)) [ true ↦ omega arith | false ↦ omega arith ]
+digit_plain d = grind (arith, nat_tests)
 
-pub hex_plain : (w v : ℕ) → Plain (hex_bytes w v)
+hex_plain : (w v : ℕ) → Plain (hex_bytes w v)
 hex_plain zero v = tt
 hex_plain (suc w) v = All-push (λ b. 48 ≤ b) (hex_bytes w (v / 16)) (hex_digit_of (v % 16)) (hex_plain w (v / 16)) (digit_plain (v % 16))
 
@@ -108,47 +100,25 @@ hex_length (suc w) v =
     omega (arith, length-append (hex_bytes w (v / 16)) (hex_digit_of (v % 16) ∷ []), hex_length w (v / 16))
 
 hex_back : (w v : ℕ) → v < 16 ^ w → hex_field w (hex_bytes w v) ≡ Some v
-hex_back w v h =
-    rw (eq-eqb (length (hex_bytes w v)) w (hex_length w v))
-    (ap (number_from 16 0) (sym (append-nil (hex_bytes w v))) ∙ hex_number w v [] h)
+hex_back w v h = grind (arith, nat_tests, hex_length, hex_number w v [], append-nil {A = ℕ})
 
 -- a count is read back
-decimal_digit_back : (d : ℕ) → d < 10 → digit_of (48 + d) ≡ Some d
-decimal_digit_back d h = grind (arith, nat_tests)
-
 abbrev Numeral : ℕ → List ℕ → Type 0
 Numeral n ds = Plain ds × ((r : List ℕ) → number_from 10 0 (ds ++ r) ≡ number_from 10 n r)
 
 numeral : (n : ℕ) → n < 2 ^ 64 → Numeral n (decimal n)
 numeral =
     decimal_by_steps Numeral
-    (λ n h. (
-      (omega arith, tt),
-      λ r. let same : 0 * 10 + n ≡ n = omega arith in
-          one_digit 10 0 (48 + n) n r (decimal_digit_back n h) h ∙ ap (λ m. number_from 10 m r) same,
-    ))
+    (λ n h. ((omega arith, tt), λ r. grind (arith, nat_tests)))
     (λ n ds h p. (
       All-push (λ b. 48 ≤ b) ds (48 + n % 10) p.0 (omega arith),
-      λ r.
-          let same : n / 10 * 10 + n % 10 ≡ n = omega arith in
-          ap (number_from 10 0) (append_assoc ds ((48 + n % 10) ∷ []) r)
-          ∙ (p.1 ((48 + n % 10) ∷ r)
-          ∙ (one_digit 10 (n / 10) (48 + n % 10) (n % 10) r (decimal_digit_back (n % 10) (omega arith)) (omega arith)
-          ∙ ap (λ m. number_from 10 m r) same)),
+      λ r. grind (arith, nat_tests, append_assoc ds ((48 + n % 10) ∷ []) r, p.1 ((48 + n % 10) ∷ r)),
     ))
 
 count_back : (n : ℕ) → 1 ≤ n → n ≤ 100000 → count_field (decimal n) ≡ Some n
 count_back n low high =
     let small : n < 2 ^ 64 = omega arith in
-    let reads : number_from 10 0 (decimal n) ≡ Some n =
-    ap (number_from 10 0) (sym (append-nil (decimal n))) ∙ (numeral n small).1 [] in
-    rw (
-      le-leb 1 (length (decimal n)) (decimal_nonempty n small),
-      le-leb (length (decimal n)) 6 (length-decimal-le 6 n (omega arith) (omega arith) small),
-      ne_eqb (get_or (decimal n) 0 0) 48 (λ e. omega (arith, first_decimal n (omega arith) small)),
-      reads,
-      le-leb n 100000 high,
-    ) refl
+    grind (arith, nat_tests, decimal_nonempty n small, length-decimal-le 6 n (omega arith) (omega arith) small, first_decimal n (omega arith) small, (numeral n small).1 [], append-nil {A = ℕ})
 
 -- nor does the line of a command have a byte 10
 plain_line : (f : List ℕ) → Plain f → Line f
@@ -161,23 +131,16 @@ kind_line : (kind : ℕ) (f : List ℕ) → (kind ≡ 10 → ⊥) → Line f →
 kind_line kind f hk hf = (hk, ((λ e. omega arith), hf))
 
 pub text_line : (c : Command) → Fits c → Line (text_of c)
-text_line (Read o) h = kind_line 82 (hex_bytes 3 o) (λ e. omega arith) (plain_line (hex_bytes 3 o) (hex_plain 3 o))
-text_line (Write o v) h =
-    kind_line 87 (hex_bytes 3 o ++ (44 ∷ hex_bytes 8 v)) (λ e. omega arith)
-    (fields_line (hex_bytes 3 o) (hex_bytes 8 v) (hex_plain 3 o) (plain_line (hex_bytes 8 v) (hex_plain 8 v)))
+text_line (Read o) h = search (rules, kind_line, plain_line, hex_plain)
+text_line (Write o v) h = search (rules, kind_line, fields_line, plain_line, hex_plain)
 text_line (Tick n b i) h =
-    kind_line 84 (decimal n ++ (44 ∷ (hex_bytes 6 b ++ (44 ∷ hex_bytes 2 i)))) (λ e. omega arith)
-    (fields_line (decimal n) (hex_bytes 6 b ++ (44 ∷ hex_bytes 2 i)) (numeral n (omega (arith, h.1))).0
-    (fields_line (hex_bytes 6 b) (hex_bytes 2 i) (hex_plain 6 b) (plain_line (hex_bytes 2 i) (hex_plain 2 i))))
+    let p = (numeral n (omega (arith, h.1))).0 in
+    search (rules, kind_line, fields_line, plain_line, hex_plain, p) depth 12
 
 pub command_back : CommandsReadBack
-command_back (Read o) h = read_text (hex_bytes 3 o) (hex_plain 3 o) ∙ ap (λ x. given x (λ y. Ok (Read y))) (hex_back 3 o h)
+command_back (Read o) h = read_text (hex_bytes 3 o) (hex_plain 3 o) (hex_back 3 o h)
 command_back (Write o v) h =
-    write_text (hex_bytes 3 o) (hex_bytes 8 v) (hex_plain 3 o) (hex_plain 8 v)
-    ∙ (ap (λ x. given x (λ y. given (hex_field 8 (hex_bytes 8 v)) (λ z. Ok (Write y z)))) (hex_back 3 o h.0)
-    ∙ ap (λ x. given x (λ z. Ok (Write o z))) (hex_back 8 v h.1))
+    write_text (hex_bytes 3 o) (hex_bytes 8 v) (hex_plain 3 o) (hex_plain 8 v) (hex_back 3 o h.0) (hex_back 8 v h.1)
 command_back (Tick n b i) h =
     tick_text (decimal n) (hex_bytes 6 b) (hex_bytes 2 i) (numeral n (omega (arith, h.1))).0 (hex_plain 6 b) (hex_plain 2 i)
-    ∙ (ap (λ x. given x (λ m. given (hex_field 6 (hex_bytes 6 b)) (λ y. given (hex_field 2 (hex_bytes 2 i)) (λ z. Ok (Tick m y z))))) (count_back n h.0 h.1)
-    ∙ (ap (λ x. given x (λ y. given (hex_field 2 (hex_bytes 2 i)) (λ z. Ok (Tick n y z)))) (hex_back 6 b h.2)
-    ∙ ap (λ x. given x (λ z. Ok (Tick n b z))) (hex_back 2 i h.3)))
+    (count_back n h.0 h.1) (hex_back 6 b h.2) (hex_back 2 i h.3)

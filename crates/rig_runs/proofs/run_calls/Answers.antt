@@ -1,5 +1,5 @@
-use Rattle.std.proofs.Common.{◌≡◌, min, length, get_or, ap, ◌∙◌, arith}
-use Rattle.rig.specs.Benches.{Bench, answer_on, new_bench, step_on}
+use Rattle.std.proofs.Common.{◌≡◌, min, length, arith}
+use Rattle.rig.specs.Benches.{new_bench}
 use Rattle.delivered.proofs.Stands.{delivers}
 use Rattle.rig_runs.proofs.Counted.{counts_on_rig}
 use Rattle.separate.proofs.Apart.{separate}
@@ -8,12 +8,9 @@ use Rattle.rig_runs.proofs.run_calls.Goals as goal
 
 pub loop-i-preserved : goal.loop-i-preserved
 loop-i-preserved g c =
-    let b = new_bench (g.F.Field.wired c.args.field.now) in
-    let x = get_or c.args.calls.now c.loop-i.i _ in (
-      run_more b _ c.args.calls.now c.loop-i.i _ (omega arith)
-          (c.make_rig_call.ensures.after ∙ ap (λ (n : Bench). step_on n x) c.loop-i.invariant.0),
-      answers_more b c.args.calls.now c.loop-i.answers c.loop-i.i _ _ (omega arith) (omega arith) c.loop-i.invariant.1
-          (c.make_rig_call.ensures.answer ∙ ap (λ (n : Bench). answer_on n x) c.loop-i.invariant.0),
+    let b = new_bench (g.F.Field.wired c.args.field.now) in (
+      run_more b _ _ c.args.calls.now c.loop-i.i _ (omega arith) c.loop-i.invariant.0 c.make_rig_call.ensures.after,
+      answers_more b _ c.args.calls.now c.loop-i.answers c.loop-i.i _ _ (omega arith) (omega arith) c.loop-i.invariant.0 c.loop-i.invariant.1 c.make_rig_call.ensures.answer,
       rest_more c.loop-i.answers c.args.answers.now c.loop-i.i _ c.loop-i.invariant.2,
     )
 
