@@ -43,6 +43,7 @@ impl Fault {
 }
 
 /// Lets `?` carry a refusal of the card up through a run.
+// By hand, since a derived one has no `from_gives` for a clause to cite.
 impl From<Refusal> for Fault {
     ghost from_gives = { λ x r. r ≡ Access x };
 
