@@ -39,7 +39,7 @@ high_bit w k x =
     ap (λ n. eqb n 1) (bit_at-suc (w * 2 + bit x) k ∙ ap (λ n. n / 2 ^ k % 2) half)
 
 -- each bit of the word is the level in its tick
-collected_bit : (H : ℕ) (line : ℕ → Bool) (r k : ℕ) → k < r → word_flag (collected H line r) k ≡ line (2 * ((r - k) * H))
+pub collected_bit : (H : ℕ) (line : ℕ → Bool) (r k : ℕ) → k < r → word_flag (collected H line r) k ≡ line (2 * ((r - k) * H))
 collected_bit H line zero k l = absurd (omega arith)
 collected_bit H line (suc r) zero l =
     let e : suc r ≡ suc r - 0 = omega arith in
@@ -81,7 +81,7 @@ pub data Under (f : Format) (H : ℕ) (line : ℕ → Bool) (τ : ℕ) : Phase �
   waiting : last_rise f H + 3100 ≤ τ → Under f H line τ Waiting
 
 -- tick s
-under_first : (f : Format) (H : ℕ) (line : ℕ → Bool) → 1 ≤ H → Under f H line 0 (phase_ticked (line 0) (Clocking (started H f)))
+pub under_first : (f : Format) (H : ℕ) (line : ℕ → Bool) → 1 ≤ H → Under f H line 0 (phase_ticked (line 0) (Clocking (started H f)))
 under_first f H line h = rw falls_first (toggling false 0 (H - 1) (omega arith) (omega arith) (omega arith))
 
 -- the tick after, while the clock toggles

@@ -33,7 +33,7 @@ index_kept : (o : Option IndexMode) (w : ℕ) → index_at (word_field w 8 3) �
 index_kept (Some m) w e = word_kept m w (index_code_lem (word_field w 8 3) m e)
 index_kept None w e = tt
 
-kept : (w : ℕ) → Kept w (decoded w)
+pub kept : (w : ℕ) → Kept w (decoded w)
 unfolding decoded
 kept w = index_kept (index_at (word_field w 8 3)) w refl
 

@@ -19,7 +19,7 @@ rest_load : (m : IndexMode) (i : Bool) (p : ℕ) → load_of_event m (rises i i)
 rest_load m i p = grind arith
 
 -- the step of such a tick, through the gate
-abbrev rest_step : Levels → Count → Step
+abbrev pub rest_step : Levels → Count → Step
 rest_step v n = step_gated n.control.index (seen_through n.control v).i (clock_step n.control.input (due_in n))
 
 pub rest_ticked : (v : Levels) (n : Count) → count_ticked v v n ≡ stepped (rest_step v n) (divided n)

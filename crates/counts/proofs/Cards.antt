@@ -50,7 +50,7 @@ module _ (k : ℕ) (h : k < 8) where
   }
 
   -- an act of every channel
-  acts : (a : Act) {p : Part} {cs : List Channel} → Shows k p cs → Shows k (part_acted a k p) (acted a cs)
+  pub acts : (a : Act) {p : Part} {cs : List Channel} → Shows k p cs → Shows k (part_acted a k p) (acted a cs)
   unfolding acted
   acts a s = everywhere (performed a) (part_acted a k) (performed_part a k) s
 

@@ -1,5 +1,5 @@
 -- Which registers an offset names, for the card and for channel k's tally.
-use Rattle.std.proofs.Common.{◌≡◌, ℕ, ◌*◌, ◌%◌, ◌<◌, true, false, cond, not, ◌||◌, eqb, ltb, arith}
+use Rattle.std.proofs.Common.{◌≡◌, ℕ, ◌+◌, ◌*◌, ◌%◌, ◌<◌, ◌≤◌, true, false, cond, not, ◌||◌, eqb, ltb, arith}
 use Rattle.std.proofs.lemmas.Bool.Decides.{nat_tests}
 use Rattle.card.specs.Registers.{channel_at, in_channels, place_at}
 use Rattle.counts.specs.Tallies.{ChannelTally, setting_at, tally_written}
@@ -26,3 +26,11 @@ shared_hits k o v t h e b = grind (arith, nat_tests, mode_stands (setting_at (wo
 -- an offset that the card refuses is no register
 pub refused_misses : (k o v : ℕ) (t : ChannelTally) → k < 8 → (not (eqb (o % 4) 0) || ltb 508 o) ≡ true → tally_written k o v t ≡ t
 refused_misses k o v t h e = grind (arith, nat_tests)
+
+-- an offset outside channel k's registers
+abbrev pub Outside : ℕ → ℕ → Type 0
+Outside k o = 16 + 40 * k ≤ o → o < 56 + 40 * k → o % 4 ≡ 0 → ⊥
+
+-- a write that names no register of channel k, nor one of the first two
+pub misses : (k o v : ℕ) (t : ChannelTally) → (o ≡ 0 → ⊥) → (o ≡ 4 → ⊥) → Outside k o → tally_written k o v t ≡ t
+misses k o v t a b n = grind (arith, nat_tests)

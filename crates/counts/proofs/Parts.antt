@@ -11,9 +11,12 @@ use Rattle.channel.specs.declared.act.Act.{Act}
 use Rattle.channel.specs.declared.act.Act.TheVariants.{Control, Load}
 use Rattle.channel.specs.declared.lines.Lines.{Lines}
 use Rattle.channel.specs.declared.mode.Mode.{Mode}
+use Rattle.channel.specs.declared.mode.OffCode.{OffCode}
 use Rattle.channel.specs.declared.mode.Mode.TheVariants.{Off, Counter as Counting, Ssi as Reading}
 use Rattle.channel.specs.declared.channel.Channel.{Channel}
 use Rattle.channel.specs.Lines.{levels_of, lines_ticked}
+use Rattle.channel.specs.Modes.{became_off}
+use Rattle.channel.specs.Records.{with_mode}
 use Rattle.channel.specs.Shares.{performed}
 use Rattle.channel.specs.Snapshots.{snapped}
 use Rattle.channel.specs.Ticks.{channel_ticked, requested, timer_requested, transmitted}
@@ -39,6 +42,10 @@ with_count n p = record { lines = p.lines; mode = p.mode; count = n }
 -- a change of mode
 abbrev pub part_mode : Setting → Part → Part
 part_mode s p = record { lines = p.lines; mode = s; count = cond (enters p.mode s) (restarted p.count) p.count }
+
+off_part : (z : OffCode) (m : Mode) (c : Channel) → part (became_off z (with_mode m c)) ≡ part_mode off (part (with_mode m c))
+unfolding register.left
+off_part z m c = grind arith
 
 -- LCNT
 abbrev pub part_loaded : Bool → Part → Part

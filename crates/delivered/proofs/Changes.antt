@@ -56,11 +56,11 @@ either : {R : Type 0} {c x y : Channel} (b : Bool) → Change R c x → Change R
 either true p q = p
 either false p q = q
 
-request_change : {R : Type 0} (c : Channel) → Change R c (requested c)
+pub request_change : {R : Type 0} (c : Channel) → Change R c (requested c)
 unfolding phase_requested ssi_requested
 request_change c = grind arith
 
-trigger_change : {R : Type 0} (c : Channel) → Change R c (triggered c)
+pub trigger_change : {R : Type 0} (c : Channel) → Change R c (triggered c)
 unfolding phase_requested ssi_requested
 trigger_change c = grind arith
 

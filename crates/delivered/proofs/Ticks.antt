@@ -7,6 +7,7 @@ use Rattle.filter.specs.Filters.{line_filtered, samples_in}
 use Rattle.filter.proofs.Held.{tick_period, tick_sound}
 use Rattle.counter_count.specs.declared.levels.Levels.{Levels}
 use Rattle.controller.specs.declared.phase.Phase.{Phase}
+use Rattle.controller.specs.declared.phase.Phase.TheVariants.{Recovering}
 use Rattle.controller.specs.declared.registers.Ssi.{Ssi}
 use Rattle.controller.specs.Phase.{active_in, busy_in, phase_ticked}
 use Rattle.controller.specs.Registers.{phase_requested, requested as ssi_requested, ticked as ssi_ticked}
@@ -15,6 +16,7 @@ use Rattle.channel.specs.declared.act.Share.TheVariants.{Single}
 use Rattle.channel.specs.declared.channel.Channel.{Channel}
 use Rattle.channel.specs.declared.mode.Mode.TheVariants.{Ssi as Reading}
 use Rattle.channel.specs.Lines.{lines_ticked}
+use Rattle.channel.specs.Records.{with_mode}
 use Rattle.channel.specs.Shares.{bit_of, clock_level, performed, share_of}
 use Rattle.channel.specs.Snapshots.{transmits, triggered}
 use Rattle.channel.specs.Ticks.{channel_ticked, observed, timer_requested}
@@ -24,7 +26,7 @@ use Rattle.card.specs.Calls.{Card, channels_ticked, tick_done, tick_levels}
 use Rattle.card.specs.Records.{blank, channel_of}
 use Rattle.card.specs.Shared.{expiry}
 use Rattle.card.specs.Snapshots.{timer_triggered}
-use Rattle.delivered.proofs.Changes.{Started, Timed}
+use Rattle.delivered.proofs.Changes.{Started, Timed, filtering}
 use Rattle.delivered.proofs.Moves.{acted_at, acted_length}
 
 -- the level of the data line after its filter
@@ -54,6 +56,11 @@ pub stays_if : (t : Bool) (p : Phase) (h : Channel) → h.mode ≡ Reading p →
 unfolding phase_requested ssi_requested
 stays_if t p h e a = grind arith
 
+-- a controller that recovers begins nothing in a tick
+pub recovering_tick : (x : Levels) (i expired : Bool) (n : ℕ) (h : Channel) → transmits (channel_ticked x i expired (with_mode (Reading (Recovering n)) h)) ≡ false
+unfolding channel_ticked phase_requested ssi_requested phase_ticked
+recovering_tick x i expired n h = grind arith
+
 tick_starts : (x : Levels) (i expired : Bool) (h : Channel) → transmits h ≡ false → transmits (channel_ticked x i expired h) ≡ true → Started (channel_ticked x i expired h)
 unfolding channel_ticked phase_requested ssi_requested phase_ticked
 tick_starts x i expired h q b = grind arith
@@ -65,7 +72,12 @@ pub tick_then : (t : Bool) (x : Levels) (i expired : Bool) (h : Channel) → tra
 unfolding phase_requested ssi_requested
 tick_then t x i expired h q b = grind (arith, tick_starts)
 
--- the filters keep their pace in a tick, whatever the channel does
+-- a tick moves the filters of the lines and leaves their register, whatever the channel does
+pub tick_lines : (x : Levels) (i expired : Bool) (h : Channel) → filtering (channel_ticked x i expired h) ≡ record { lines = lines_ticked x h.lines; debounce = h.debounce }
+unfolding channel_ticked
+tick_lines x i expired h = grind arith
+
+-- so they keep their pace
 pub timed_tick : (x : Levels) (i expired : Bool) (h : Channel) → Timed h → Timed (channel_ticked x i expired h)
 unfolding channel_ticked
 timed_tick x i expired h s = grind (arith, tick_sound, tick_period)

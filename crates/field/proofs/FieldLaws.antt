@@ -1,14 +1,16 @@
 -- A plug over a field, and acts at channels.
-use Rattle.std.specs.Prelude.{◌≡◌, ℕ, Bool, true, false, cond, List, [], ◌∷◌, IfSome, Some, None, Option, ◌==◌, ◌≢◌, refl}
+use Rattle.std.specs.Prelude.{◌≡◌, ℕ, Bool, true, false, cond, List, [], ◌∷◌, IfSome, Some, None, Option, Result, ◌==◌, ◌≢◌, refl}
 use Rattle.std.proofs.Common.{sym, ap, ◌∙◌}
 use Rattle.std.proofs.Math.Path.{fun_ext}
 use Rattle.std.specs.Option.{option_map}
 use Rattle.std.proofs.lemmas.Bool.{eq-eqb, eqb-true, ne_eqb}
-use Rattle.sensor.specs.Model.{Model, Sound, advanced, turned}
+use Rattle.sensor.specs.declared.refusal.FieldRefusal.{FieldRefusal}
+use Rattle.sensor.specs.Model.{Model, Sound, advanced, level_of, turn_answer, turned}
 use Rattle.sensor.specs.Sending.{Act, acted, after}
 use Rattle.sensor.proofs.Soundness.{advanced_sound, turned_sound}
 use Rattle.field.specs.OwnSensor.{acts_at, OwnSensor}
-use Rattle.field.specs.Wiring.{FieldModel, Sounds, none_wired, advanced_at, at_channel, plugged, turned_at}
+use Rattle.field.specs.FieldsSound.{plug_below}
+use Rattle.field.specs.Wiring.{FieldModel, Sounds, none_wired, advanced_at, at_channel, level_at, plugged, turn_answer_at, turned_at}
 
 same_either : {X : Type 0} (b : Bool) (x : X) → x ≡ cond b x x
 same_either true x = refl
@@ -51,6 +53,18 @@ pub acts_below : (k ch : ℕ) (m : Model) (f f' : FieldModel) (act : Model → M
 unfolding at_channel plugged
 acts_below k ch m f f' act ne h =
     fun_ext (λ j. acts_off act (j == k) (j == ch) m (f j) (f' j) (λ t. ne_eqb j ch (λ e. ne (sym e ∙ eqb-true j k t))) (ap (λ (g : FieldModel). g j) h))
+
+pub level_here : (k ch : ℕ) (m : Model) (f : FieldModel) (b : Bool) → ch ≡ k → b ≡ level_of m → Some b ≡ level_at (plugged k m f) ch
+level_here k ch m f b e h = rw (plug_here k ch m f e, h)
+
+pub level_below : (k ch : ℕ) (m : Model) (f : FieldModel) (r : Option Bool) → (ch ≢ k) → r ≡ level_at f ch → r ≡ level_at (plugged k m f) ch
+level_below k ch m f r ne h = rw (plug_below k ch m f ne) h
+
+pub answer_here : (k ch p : ℕ) (m : Model) (f : FieldModel) (r : Result (Unit {0}) FieldRefusal) → ch ≡ k → r ≡ turn_answer m p → r ≡ turn_answer_at (plugged k m f) ch p
+answer_here k ch p m f r e h = rw (plug_here k ch m f e) h
+
+pub answer_below : (k ch p : ℕ) (m : Model) (f : FieldModel) (r : Result (Unit {0}) FieldRefusal) → (ch ≢ k) → r ≡ turn_answer_at f ch p → r ≡ turn_answer_at (plugged k m f) ch p
+answer_below k ch p m f r ne h = rw (plug_below k ch m f ne) h
 
 act_sounds : (act : Model → Model) (b : Bool) (o : Option Model) → ((m : Model) → Sound m → Sound (act m)) → IfSome o Sound → IfSome (cond b (option_map act o) o) Sound
 act_sounds act true None keeps h = tt

@@ -37,7 +37,8 @@ impl Samples {
     pub fn is_steady(&self, line: bool) -> bool
         ensures { result ≡ steady_at line self.now }
     {
-        line == self.last && line == self.before && line == self.level
+        // All three looks and no jump at each: every line asks at every sample.
+        (line == self.last) & (line == self.before) & (line == self.level)
     }
 
     /// One tick with the line at the given level; `due` says that the filter samples in it.

@@ -3,7 +3,7 @@ use Rattle.std.proofs.Common.{ℕ, ◌+◌, ◌-◌, ◌*◌, ◌%◌, ◌^◌, 
 use Rattle.std.proofs.lemmas.Nat.{shl_below, one_shl, pow_pos}
 
 -- the bound of a part shifted by at most seven places
-shifted_below : (w z : ℕ) → w < 2 ^ 32 → z ≤ 7 → w * 2 ^ z < 2 ^ 39
+pub shifted_below : (w z : ℕ) → w < 2 ^ 32 → z ≤ 7 → w * 2 ^ z < 2 ^ 39
 shifted_below w z h l =
     let p : 2 ^ (32 + z) ≤ 2 ^ 39 = pow_mono {i = 32 + z} {j = 39} (omega arith) in
     omega (arith, shl_below w 32 z h)

@@ -1,6 +1,6 @@
 //! How many data bits and extra bits a frame has, and the bits of its word that a parity bit covers.
 ghost use Rattle.std.specs.Prelude.{◌≡◌, ◌^◌, ◌<◌, ◌≤◌};
-ghost use Rattle.frame.specs.Layout.{covered_bits, parity_mask, parity_off};
+ghost use Rattle.frame.specs.Layout.{covered_bits, parity_mask, parity_off, parity_ones};
 
 use crate::format::{Parity, Span};
 
@@ -33,12 +33,20 @@ impl Widths {
         self.covered(span) * 2 + 1
     }
 
-    /// The ones of a frame word that take part in parity, with one more where it is odd, modulo 2: 0 where the parity is right.
+    /// The ones of a frame word that take part in parity.
+    fn ones(self, span: Span, word: u64) -> u32
+        ensures answer { result ≡ parity_ones span self.data_bits self.extra_bits word }
+        ensures most { result ≤ 64 }
+    {
+        (word & self.mask(span)).count_ones()
+    }
+
+    /// These ones, with one more where parity is odd, modulo 2: 0 where the parity is right.
     // A number and no bool: the sender puts it in the frame as the parity bit.
     pub(crate) fn parity_off(self, parity: Parity, word: u64) -> u32
         ensures answer { result ≡ parity_off parity self.data_bits self.extra_bits word }
         ensures below { result < 2 }
     {
-        ((word & self.mask(parity.span)).count_ones() + u32::from(parity.odd)) % 2
+        (self.ones(parity.span, word) + u32::from(parity.odd)) % 2
     }
 }

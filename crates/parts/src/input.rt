@@ -45,6 +45,10 @@ impl Input {
     {
         let before = self.samples.level;
         let due = self.timing.tick();
+        // Most ticks tell nothing new: then the level stays, and there is no edge.
+        if !due || self.samples.is_steady(level) {
+            return;
+        }
         self.samples.tick(due, level);
         self.raise_edges(before, self.samples.level);
     }

@@ -2,6 +2,7 @@
 use Rattle.std.proofs.Common.{◌≡◌, ℕ, ◌+◌, ◌-◌, ◌<◌, ◌≤◌, List, [], ◌++◌, length, drop, None, Ok, Err, Result, sym, refl, ap, ◌∙◌, append_assoc, arith, drop-drop, eqb, le-ltb}
 use Rattle.std.specs.List.{position_or_len}
 use Rattle.std.proofs.lemmas.List.{append-nil, length-append, length-drop}
+use Rattle.std.proofs.lemmas.Bool.Decides.{nat_tests}
 use Rattle.card.specs.Calls.{Card}
 use Rattle.text.specs.Lines.{up_to, past, lines_of}
 use Rattle.text.specs.declared.fault.Fault.{Fault}
@@ -10,6 +11,11 @@ use Rattle.script.specs.Cursor.{written, left}
 use Rattle.script.specs.Runs.{Done, Ran, RanAll, Outcome, ended, go_on, lines_ran, line_ran, result_of, script_on}
 use Rattle.script.specs.declared.output.Output.{Output}
 use Rattle.script.specs.declared.run.Runner.{Runner}
+
+-- a line that is run fits the room
+pub line_room : (l : List ℕ) (k : Card) (room : ℕ) (d : Done) → line_ran l k room ≡ Ok d → length d.bytes ≤ room
+unfolding line_ran
+line_room l k room d q = grind (arith, nat_tests)
 
 -- where a runner has come, of a whole run from another on: `rest` is still to come
 pub record Along (whole rest : Outcome) (s s' : Runner) (o p : Output) : Type 0 where

@@ -90,7 +90,7 @@ hex_number (suc w) v r h =
 digit_plain : (d : ℕ) → 48 ≤ hex_digit_of d
 digit_plain d = grind (arith, nat_tests)
 
-hex_plain : (w v : ℕ) → Plain (hex_bytes w v)
+pub hex_plain : (w v : ℕ) → Plain (hex_bytes w v)
 hex_plain zero v = tt
 hex_plain (suc w) v = All-push (λ b. 48 ≤ b) (hex_bytes w (v / 16)) (hex_digit_of (v % 16)) (hex_plain w (v / 16)) (digit_plain (v % 16))
 

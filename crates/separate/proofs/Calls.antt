@@ -60,7 +60,7 @@ pub data Here (k o : ℕ) : Type 0 where
   snapshot : in_channels o ≡ false → in_snapshots o ≡ true → snapshot_at o ≡ k → Here k o
   shared : in_channels o ≡ false → in_snapshots o ≡ false → Here k o
 
-data Away (k o : ℕ) : Type 0 where
+pub data Away (k o : ℕ) : Type 0 where
   other : in_channels o ≡ true → (channel_at o ≡ k → ⊥) → Away k o
   other_snapshot : in_channels o ≡ false → in_snapshots o ≡ true → (snapshot_at o ≡ k → ⊥) → Away k o
 
@@ -73,7 +73,7 @@ here k o e = go (nowhere o) (in_channels o) (in_snapshots o) refl refl e
     go false false true p q e = snapshot p q (eqb-true (snapshot_at o) k e)
     go false false false p q e = shared p q
 
-away : (k o : ℕ) → concerns k o ≡ false → nowhere o ≡ false → Away k o
+pub away : (k o : ℕ) → concerns k o ≡ false → nowhere o ≡ false → Away k o
 away k o e n = go (in_channels o) (in_snapshots o) refl refl (rw n at e)
   where
     go : (i m : Bool) → in_channels o ≡ i → in_snapshots o ≡ m → cond i (eqb (channel_at o) k) (cond m (eqb (snapshot_at o) k) true) ≡ false → Away k o

@@ -13,6 +13,7 @@ use sensor::constants::Constants;
 use sensor::gray::GraySensor;
 use sensor::refusal::FieldRefusal;
 use sensor::sensor::Sensor;
+use std::io;
 
 /// Where the microphone stands for one seat: steps along the rail, and the turntable's position.
 struct Seat {
@@ -150,17 +151,26 @@ impl Hall {
     }
 }
 
-fn main(rt: HostRuntime) -> anyhow::Result<()> {
+// `main` tells refusals as it tells a failed write. None comes: settings, positions and offsets are in range.
+fn access_refused(_: Refusal) -> io::Error {
+    io::Error::other("the card refuses an access")
+}
+
+fn field_refused(_: FieldRefusal) -> io::Error {
+    io::Error::other("the field refuses the turntable or its position")
+}
+
+fn main(rt: HostRuntime) -> io::Result<()> {
     let mut hall = Hall {
         card: Card::power_on(),
-        field: wire()?,
+        field: wire().map_err(field_refused)?,
         carriage: 0,
     };
-    hall.set_up()?;
+    hall.set_up().map_err(access_refused)?;
     for seat in SEATS.iter() {
         hall.move_carriage(seat.rail);
-        hall.field.turn(1, seat.turntable)?;
-        let Delivered { rail, turntable } = hall.measure()?;
+        hall.field.turn(1, seat.turntable).map_err(field_refused)?;
+        let Delivered { rail, turntable } = hall.measure().map_err(access_refused)?;
         println!(rt;
             "seat {}: rail set {} delivered {rail}, turntable set {} delivered {turntable}",
             seat.number, seat.rail, seat.turntable

@@ -18,7 +18,10 @@ impl<'a> Reader<'a> {
     pub(crate) fn more_fields(&self) -> usize
         ensures { result ≡ commas (rest self.now) }
     {
-        self.bytes[self.at..].iter().filter(|b| **b == b',').count()
+        self.bytes[self.at..]
+            .iter()
+            .map(|b| usize::from(*b == b','))
+            .sum()
     }
 
     // The letter of a field of one byte; none for any other field.
